@@ -1,0 +1,123 @@
+-- The intervals stand at the start of the times. The loop's invariant: n intervals are written, the intervals from word i on, with
+-- what is pending there, are still to be written, and the open time from there is that of the whole flux.
+use mathlib.Core.Path.{_≡_, refl, sym, _∙_}
+use Prim.Native.Nat.{_+_, _*_, _-_, _/_, _≤_, _<_}
+use mathlib.Core.List.{_∷_}
+use native.Mathlib.Omega.{arith}
+use lib.ListN.{length, drop}
+use borrow.Author.Needs.{needs}
+use Rattle.flux.specs.Coding.{wordsOf}
+use Rattle.flux.specs.Reading.{zeroTicks, intervals, openTime}
+use Rattle.flux.proofs.AtWord.{intervals-zero, intervals-close, intervals-end, open-zero, open-close, open-end}
+use Rattle.flux.proofs.Wrote.{Wrote, start, retell, below, put, filled, whole-is}
+use Rattle.flux.proofs.fill.Statement.{statement}
+use Rattle.flux.proofs.fill.Tie as tie
+
+abbrev Inv-loop : tie.InvT-loop
+Inv-loop flux times₀ words pending₀ n₀ i₀ times pending n i =
+    (pending ≤ zeroTicks * i)
+    × (openTime pending (drop i (wordsOf flux)) ≡ openTime 0 (wordsOf flux))
+    × Wrote times₀ times n (intervals pending (drop i (wordsOf flux))) (intervals 0 (wordsOf flux))
+
+abbrev μ-loop : tie.MeasureT-loop
+μ-loop flux times₀ words pending₀ n₀ i₀ times pending n i = words - i
+
+loop-holds : tie.Need-loop-holds Inv-loop μ-loop
+loop-holds c = (omega arith, refl, start _ _)
+
+word-at-requires : tie.Need-word-at-requires Inv-loop μ-loop
+word-at-requires c κs = search needs
+
+add-i : tie.Need-add-i Inv-loop μ-loop
+add-i c = search needs
+
+add-pending : tie.Need-add-pending Inv-loop μ-loop
+add-pending c = search needs
+
+loop-less : tie.Need-loop-less Inv-loop μ-loop
+loop-less c = search needs
+
+loop-again : tie.Need-loop-again Inv-loop μ-loop
+loop-again c =
+    let at-call = c .before in
+    let l = at-call .before .before .loop in
+    let s = at-call .before .before .before .before .before .args .flux .now in
+    let w = at-call .word-at .ensures .0 in (
+      omega arith,
+      sym (open-zero s (l .i) _ (omega arith) w (c .if1 .taken) (l .pending)) ∙ l .inv .1,
+      retell (intervals-zero s (l .i) _ (omega arith) w (c .if1 .taken) (l .pending)) (l .inv .2),
+    )
+
+-- the interval that a closing word gives is the next to be written
+next : (c : tie.Else1 Inv-loop μ-loop)
+    → Wrote (c .before .before .before .before .before .before .args .times .now)
+    (c .before .before .before .loop .times)
+    (c .before .before .before .loop .n)
+    ((c .before .before .before .loop .pending + c .before .word-at .result)
+    ∷ intervals 0 (drop (c .before .before .before .loop .i + 1) (wordsOf (c .before .before .before .before .before .before .args .flux .now))))
+    (intervals 0 (wordsOf (c .before .before .before .before .before .before .args .flux .now)))
+next c =
+    let at-call = c .before in
+    let l = at-call .before .before .loop in
+    let s = at-call .before .before .before .before .before .args .flux .now in
+    retell (intervals-close s (l .i) _ (omega arith) (at-call .word-at .ensures .0) (c .if1 .left) (l .pending)) (l .inv .2)
+
+in-times : (c : tie.Else1 Inv-loop μ-loop) → c .before .before .before .loop .n < length (c .before .before .before .loop .times)
+in-times c = below (c .before .before .before .before .before .before .pre .1) (next c)
+
+add-times : tie.Need-add-times Inv-loop μ-loop
+add-times c = search needs
+
+mul-times : tie.Need-mul-times Inv-loop μ-loop
+mul-times c = let b = in-times c in let e = c .before .before .before .loop .inv .2 .same in omega arith
+
+slice-write-times : tie.Need-slice-write-times Inv-loop μ-loop
+slice-write-times c = in-times c
+
+add-n : tie.Need-add-n Inv-loop μ-loop
+add-n c = let b = in-times c in let e = c .before .before .before .loop .inv .2 .same in omega arith
+
+loop-less-2 : tie.Need-loop-less-2 Inv-loop μ-loop
+loop-less-2 c = search needs
+
+loop-again-2 : tie.Need-loop-again-2 Inv-loop μ-loop
+loop-again-2 c =
+    let at-call = c .before in
+    let l = at-call .before .before .loop in
+    let at-start = at-call .before .before .before .before .before in (
+      omega arith,
+      sym (open-close (at-start .args .flux .now) (l .i) _ (omega arith) (at-call .word-at .ensures .0) (c .if1 .left) (l .pending)) ∙ l .inv .1,
+      put (at-start .pre .1) (next c),
+    )
+
+same-length : tie.Need-same-length Inv-loop μ-loop
+same-length c = c .before .loop .inv .2 .same
+
+returns : tie.Need-returns Inv-loop μ-loop
+returns c =
+    let at-loop = c .before in
+    let h = retell (intervals-end _ _ (c .loop-test .left) _) (at-loop .loop .inv .2) in
+    let o = sym (open-end _ _ (c .loop-test .left) _) ∙ at-loop .loop .inv .1 in
+    let n = filled h in
+    (cc, whole-is h)
+
+pub fill-spec : {M : Type 1} → statement M
+fill-spec =
+    tie.close
+    (tie.spec
+    Inv-loop
+    μ-loop
+    loop-holds
+    word-at-requires
+    add-i
+    add-pending
+    loop-less
+    loop-again
+    add-times
+    mul-times
+    slice-write-times
+    add-n
+    loop-less-2
+    loop-again-2
+    same-length
+    returns)

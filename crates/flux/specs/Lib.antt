@@ -1,0 +1,5 @@
+pub mod Coding
+pub mod Reading
+pub mod Writing
+pub mod Answers
+pub mod Theorems

@@ -1,0 +1,31 @@
+-- From words to intervals (01, Flux and time).
+use Prim.Native.Nat.{ℕ, zero, suc, _+_}
+use mathlib.Core.List.{List, [], _∷_}
+
+-- The ticks of a zero word.
+abbrev pub zeroTicks : ℕ
+zeroTicks = 65_536
+
+-- "A word w > 0 closes an interval of w plus 65,536 for each zero word directly before it"; p ticks are pending.
+unfoldable pub intervals : ℕ → List ℕ → List ℕ
+intervals p [] = []
+intervals p (zero ∷ ws) = intervals (p + zeroTicks) ws
+intervals p (suc w ∷ ws) = (p + suc w) ∷ intervals 0 ws
+
+-- "Zero words after the last closing word are open time, 65,536 ticks each, and no interval"; p ticks are pending.
+unfoldable pub openTime : ℕ → List ℕ → ℕ
+openTime p [] = p
+openTime p (zero ∷ ws) = openTime (p + zeroTicks) ws
+openTime p (suc w ∷ ws) = openTime 0 ws
+
+-- How many words are not zero.
+unfoldable pub closingWords : List ℕ → ℕ
+closingWords [] = 0
+closingWords (zero ∷ ws) = closingWords ws
+closingWords (suc w ∷ ws) = suc (closingWords ws)
+
+-- "the sum over the words, 65,536 for a zero and w for any other".
+unfoldable pub totalTicks : List ℕ → ℕ
+totalTicks [] = 0
+totalTicks (zero ∷ ws) = zeroTicks + totalTicks ws
+totalTicks (suc w ∷ ws) = suc w + totalTicks ws

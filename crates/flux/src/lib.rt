@@ -1,0 +1,287 @@
+// Flux words and the intervals that they stand for (SCP 1.6, track data): a cursor that steps from interval to interval, all
+// intervals at one go, and the words of times.
+ghost use mathlib.Core.Path.{_≡_};
+ghost use Prim.Native.Nat.{ℕ, _+_, _*_, _<_, _≤_};
+ghost use lib.ListN.{length, replicate, drop};
+ghost use lib.Dec.{leb};
+ghost use lib.Seq.{sets};
+ghost use mathlib.Core.List.{[], _∷_, _++_};
+ghost use Rattle.octets.specs.Numbers.{be16At};
+ghost use Rattle.flux.specs.Coding.{wordsOf, bytesOf, badFluxSize, fluxLimit};
+ghost use Rattle.flux.specs.Reading.{intervals, openTime, closingWords};
+ghost use Rattle.flux.specs.Writing.{expressible, wordsFor};
+ghost use Rattle.flux.specs.Answers.{gives, ofStep, stepAt, ofFilled, reading, ofWritten, writing, answerOf, bufferAfter};
+
+// The ticks of a zero word, which closes no interval.
+const ZERO_TICKS: u64 = 65_536;
+
+// The most bytes of flux that are read.
+const FLUX_LIMIT: usize = 268_435_456;
+
+// The longest time that is written.
+const TICK_LIMIT: u64 = 4_294_967_295;
+
+// The numbers of refusal (01): the lent buffer is too short; a time cannot be expressed; flux of a bad length.
+const PLACES_REFUSED: u32 = 15;
+
+const TIME_REFUSED: u32 = 16;
+
+const WORDS_REFUSED: u32 = 17;
+
+// Why a call is refused, and where: 01's number and position.
+pub struct Refusal {
+    pub number: u32,
+    pub position: u64,
+}
+
+// The number of the word to read next (01: the reader).
+pub struct Cursor {
+    pub word: usize,
+}
+
+// What a step finds.
+pub enum Step {
+    // A word closes an interval; beside an interval the open time is 0, and next is past that word.
+    Interval { ticks: u64, open: u64, next: Cursor },
+    // No closing word is left: the open time from the cursor on, and the cursor as it was.
+    Open { open: u64, next: Cursor },
+    Refused(Refusal),
+}
+
+// The intervals at one go: how many places are filled, and the open time.
+pub enum Filled {
+    Places { filled: usize, open: u64 },
+    Refused(Refusal),
+}
+
+// The words of times: how many bytes are filled.
+pub enum Written {
+    Bytes(usize),
+    Refused(Refusal),
+}
+
+fn wide(x: u8) -> u64
+    ensures { λ r. ⌜ (r ≡ x) × (r < 256) ⌝ }
+{
+    x as u64
+}
+
+// Whether flux of n bytes is refused.
+fn bad_flux_size(n: usize) -> bool
+    ensures { λ r. ⌜ r ≡ badFluxSize n ⌝ }
+{
+    (n % 2 == 1) | (FLUX_LIMIT < n)
+}
+
+// The word of number i.
+fn word_at(flux: &[u8], i: usize) -> u64
+    requires { ⌜ 2 * i + 1 < length (now flux) ⌝ }
+    ensures { λ r. ⌜ (r ≡ be16At (now (flux .entry)) (2 * i)) × (r < 65_536) ⌝ }
+{
+    let at = 2 * i;
+    let hi = wide(flux[at]);
+    let lo = wide(flux[at + 1]);
+    256 * hi + lo
+}
+
+impl Cursor {
+    // The next interval of the flux bytes, or the open time where no closing word is left.
+    pub fn step(self, flux: &[u8]) -> Step
+        ensures { λ r. ⌜ ofStep r ≡ stepAt (now (flux .entry)) (self .word) ⌝ }
+    {
+        let from = self.word;
+        let n = flux.len();
+        if bad_flux_size(n) {
+            return Step::Refused(Refusal {
+                number: WORDS_REFUSED,
+                position: 0,
+            });
+        }
+        let words = n / 2;
+        let mut ticks: u64 = 0;
+        let mut i = from;
+        while i < words {
+            let w = word_at(flux, i);
+            i += 1;
+            if w != 0 {
+                let interval = ticks + w;
+                return Step::Interval {
+                    ticks: interval,
+                    open: 0,
+                    next: Cursor { word: i },
+                };
+            }
+            ticks += ZERO_TICKS;
+        }
+        Step::Open {
+            open: ticks,
+            next: Cursor { word: from },
+        }
+    }
+}
+
+// How many words are not zero.
+fn count_closing(flux: &[u8]) -> usize
+    ensures { λ r. ⌜ r ≡ closingWords (wordsOf (now (flux .entry))) ⌝ }
+{
+    let words = flux.len() / 2;
+    let mut n: usize = 0;
+    let mut i: usize = 0;
+    while i < words {
+        let w = word_at(flux, i);
+        i += 1;
+        if w != 0 {
+            n += 1;
+        }
+    }
+    n
+}
+
+// Whether so many places hold the intervals: they are counted only where there are fewer places than words.
+fn enough_places(flux: &[u8], places: usize) -> bool
+    ensures { λ r. ⌜ r ≡ leb (length (intervals 0 (wordsOf (now (flux .entry))))) places ⌝ }
+{
+    if flux.len() / 2 <= places {
+        return true;
+    }
+    count_closing(flux) <= places
+}
+
+// Writes the intervals at the start of the times, which have places for them.
+fn fill(flux: &[u8], times: &mut [u64]) -> Filled
+    requires { ⌜ length (now flux) ≤ fluxLimit ⌝ }
+    requires { ⌜ length (intervals 0 (wordsOf (now flux))) ≤ length (now times) ⌝ }
+    ensures { λ r. ⌜ ofFilled r ≡ gives (length (intervals 0 (wordsOf (now (flux .entry)))) ∷ openTime 0 (wordsOf (now (flux .entry))) ∷ []) ⌝ }
+    ensures { λ r. ⌜ now (times .exit) ≡ intervals 0 (wordsOf (now (flux .entry))) ++ drop (length (intervals 0 (wordsOf (now (flux .entry))))) (now (times .entry)) ⌝ }
+{
+    let words = flux.len() / 2;
+    let mut pending: u64 = 0;
+    let mut n: usize = 0;
+    let mut i: usize = 0;
+    while i < words {
+        let w = word_at(flux, i);
+        i += 1;
+        if w == 0 {
+            pending += ZERO_TICKS;
+        } else {
+            times[n] = pending + w;
+            n += 1;
+            pending = 0;
+        }
+    }
+    Filled::Places {
+        filled: n,
+        open: pending,
+    }
+}
+
+// All intervals of the flux bytes at one go, at the start of the times.
+pub fn intervals(flux: &[u8], times: &mut [u64]) -> Filled
+    ensures { λ r. ⌜ ofFilled r ≡ answerOf (reading (now (flux .entry)) (length (now (times .entry)))) ⌝ }
+    ensures { λ r. ⌜ now (times .exit) ≡ bufferAfter (now (times .entry)) (reading (now (flux .entry)) (length (now (times .entry)))) ⌝ }
+{
+    let n = flux.len();
+    if bad_flux_size(n) {
+        return Filled::Refused(Refusal {
+            number: WORDS_REFUSED,
+            position: 0,
+        });
+    }
+    let places = times.len();
+    if enough_places(flux, places) {
+        fill(flux, times)
+    } else {
+        Filled::Refused(Refusal {
+            number: PLACES_REFUSED,
+            position: 0,
+        })
+    }
+}
+
+// Whether words can express a time.
+fn can_express(t: u64) -> bool
+    ensures { λ r. ⌜ r ≡ expressible t ⌝ }
+{
+    (1 <= t) & ((t <= TICK_LIMIT) & (t % ZERO_TICKS != 0))
+}
+
+// What making words of the times answers for a buffer of so many bytes. The count stops growing once it is too large.
+fn measure(times: &[u64], room: usize) -> Written
+    ensures { λ r. ⌜ ofWritten r ≡ answerOf (writing (now (times .entry)) room) ⌝ }
+{
+    let most = room / 2;
+    let n = times.len();
+    let mut words: usize = 0;
+    let mut i: usize = 0;
+    while i < n {
+        let t = times[i];
+        if can_express(t) {
+            i += 1;
+            if words <= most {
+                words += (t / ZERO_TICKS) as usize + 1;
+            }
+        } else {
+            return Written::Refused(Refusal {
+                number: TIME_REFUSED,
+                position: i as u64,
+            });
+        }
+    }
+    if most < words {
+        return Written::Refused(Refusal {
+            number: PLACES_REFUSED,
+            position: 0,
+        });
+    }
+    let bytes = 2 * words;
+    Written::Bytes(bytes)
+}
+
+// Clears n bytes from `at` on, and answers where they end.
+fn put_zeros(flux: &mut [u8], at: usize, n: usize) -> usize
+    requires { ⌜ at + n ≤ length (now flux) ⌝ }
+    ensures { λ r. ⌜ r ≡ at + n ⌝ }
+    ensures { λ r. ⌜ now (flux .exit) ≡ sets (now (flux .entry)) at (replicate n 0) ⌝ }
+{
+    let end = at + n;
+    let mut i = at;
+    while i < end {
+        flux[i] = 0;
+        i += 1;
+    }
+    end
+}
+
+// Writes the words of the times at the start of the flux bytes, which have room for them.
+fn put_words(times: &[u64], flux: &mut [u8])
+    requires { ⌜ length (bytesOf (wordsFor (now times))) ≤ length (now flux) ⌝ }
+    ensures { λ r. ⌜ now (flux .exit) ≡ bytesOf (wordsFor (now (times .entry))) ++ drop (length (bytesOf (wordsFor (now (times .entry))))) (now (flux .entry)) ⌝ }
+{
+    let n = times.len();
+    let mut at: usize = 0;
+    let mut i: usize = 0;
+    while i < n {
+        let t = times[i];
+        i += 1;
+        let zeros = (t / ZERO_TICKS) as usize;
+        at = put_zeros(flux, at, 2 * zeros);
+        let w = t % ZERO_TICKS;
+        flux[at] = (w / 256) as u8;
+        at += 1;
+        flux[at] = (w % 256) as u8;
+        at += 1;
+    }
+}
+
+// The words of the times, as bytes at the start of the flux.
+pub fn words(times: &[u64], flux: &mut [u8]) -> Written
+    ensures { λ r. ⌜ ofWritten r ≡ answerOf (writing (now (times .entry)) (length (now (flux .entry)))) ⌝ }
+    ensures { λ r. ⌜ now (flux .exit) ≡ bufferAfter (now (flux .entry)) (writing (now (times .entry)) (length (now (flux .entry)))) ⌝ }
+{
+    let room = flux.len();
+    let answer = measure(times, room);
+    if let Written::Bytes(_) = answer {
+        put_words(times, flux);
+    }
+    answer
+}
