@@ -1,0 +1,5 @@
+pub mod Chain
+pub mod Loops
+pub mod Strings
+pub mod Finding
+pub mod Sizes

@@ -1,0 +1,49 @@
+-- A loop that searches upwards from i below n. Its invariant is that what is to be found from i on is r; here stand what holds where it
+-- stops, where it goes on, and where it ends.
+use Prim.Native.Nat.{ℕ, suc, _+_, _-_, _<_, _≤_}
+use mathlib.Core.Path.{_≡_, sym, ap, _∙_}
+use mathlib.Core.Bool.{Bool, true, false, _||_}
+use native.Mathlib.Omega.{arith}
+use borrow.Author.Tests.{eq-eqb, ne-eqb}
+use Rattle.flux.specs.declared.Refusal.{Refusal}
+use Rattle.scp_header.specs.Refusals.{none, refuseIf, firstOf}
+use Rattle.scp_header.specs.Search.{anyFrom, firstFrom}
+use Rattle.scp_header.proofs.Chain.{first-here, first-next}
+
+left-suc : (i n : ℕ) → i < n → n - i ≡ suc (n - (i + 1))
+left-suc i n h = omega arith
+
+left-none : (i n : ℕ) → n ≤ i → n - i ≡ 0
+left-none i n h = omega arith
+
+module _ (p : ℕ → Bool) {i n : ℕ} {r : Bool} (inv : anyFrom p i (n - i) ≡ r) where
+  any-step : i < n → r ≡ (p i || anyFrom p (i + 1) (n - (i + 1)))
+  unfolding anyFrom
+  any-step h = sym inv ∙ ap (anyFrom p i) (left-suc i n h)
+
+  pub any-here : i < n → p i ≡ true → true ≡ r
+  any-here h t = sym (any-step h ∙ simp t)
+
+  pub any-next : i < n → p i ≡ false → anyFrom p (i + 1) (n - (i + 1)) ≡ r
+  any-next h t = sym (any-step h ∙ simp t)
+
+  pub any-end : n ≤ i → false ≡ r
+  unfolding anyFrom
+  any-end h = sym (sym inv ∙ ap (anyFrom p i) (left-none i n h))
+
+-- v is the finding at i
+module _ (f : ℕ → Refusal) {i n : ℕ} {r : Refusal} (inv : firstFrom f i (n - i) ≡ r) where
+  first-step : i < n → firstOf (f i) (firstFrom f (i + 1) (n - (i + 1))) ≡ r
+  unfolding firstFrom
+  first-step h = sym (ap (firstFrom f i) (left-suc i n h)) ∙ inv
+
+  pub found-here : {v : Refusal} → i < n → v ≡ f i → (v .number ≡ 0 → ⊥) → v ≡ r
+  found-here {v} h e t = first-here (f i) (firstFrom f (i + 1) (n - (i + 1))) e t ∙ first-step h
+
+  pub found-next : {v : Refusal} → i < n → v ≡ f i → v .number ≡ 0 → firstFrom f (i + 1) (n - (i + 1)) ≡ r
+  unfolding refuseIf firstOf
+  found-next {v} h e t = sym (simp (eq-eqb (f i .number) 0 (ap (λ (x : Refusal). x .number) (sym e) ∙ t))) ∙ first-step h
+
+  pub found-none : n ≤ i → none ≡ r
+  unfolding firstFrom
+  found-none h = sym (sym inv ∙ ap (firstFrom f i) (left-none i n h))

@@ -1,0 +1,29 @@
+-- The size of an image, by the tests of refusal 1.
+use Prim.Native.Nat.{ℕ, _<_, _≤_}
+use mathlib.Core.Path.{_≡_}
+use mathlib.Core.List.{List}
+use mathlib.Core.Bool.{true, false, or-true}
+use lib.ListN.{length}
+use lib.Dec.{ltb}
+use borrow.Author.Tests.{lt-ltb, le-ltb, ltb-false}
+use Rattle.scp_header.specs.Header.{tableEnd, sizeLimit, badSize}
+use Rattle.scp_header.specs.HeaderFault.{headFault}
+use Rattle.scp_header.proofs.Finding.{neither, not-refused}
+
+module _ (b : List ℕ) where
+  pub small : length b < tableEnd → badSize b ≡ true
+  unfolding badSize
+  small h = simp (lt-ltb _ _ h)
+
+  pub large : sizeLimit < length b → badSize b ≡ true
+  unfolding badSize
+  large h = simp (lt-ltb _ _ h, or-true)
+
+  pub sized : tableEnd ≤ length b → length b ≤ sizeLimit → badSize b ≡ false
+  unfolding badSize
+  sized h k = simp (le-ltb _ _ h, le-ltb _ _ k)
+
+  -- an image whose header is not refused has the whole table
+  pub head-least : headFault b .number ≡ 0 → tableEnd ≤ length b
+  unfolding badSize headFault
+  head-least h = ltb-false (length b) tableEnd (neither _ _ (not-refused (badSize b) 0 0 _ h .0) .0)

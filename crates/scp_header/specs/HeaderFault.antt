@@ -1,0 +1,18 @@
+-- Refusals 1 to 8 in their order (01, Numbers of refusal).
+use Prim.Native.Nat.{ℕ}
+use mathlib.Core.List.{List}
+use Rattle.flux.specs.declared.Refusal.{Refusal}
+use Rattle.scp_header.specs.Refusals.{refusal, refuseIf}
+use Rattle.scp_header.specs.Header.{badSize, badSign, badWidth, badRevolutions, badSpan, badHeads}
+use Rattle.scp_header.specs.Footer.{footerFault}
+
+-- "The lowest number among 1 to 8 comes first."
+unfoldable pub headFault : List ℕ → Refusal
+headFault b =
+    refuseIf (badSize b) (refusal 1 0)
+    (refuseIf (badSign b) (refusal 2 0)
+    (refuseIf (badWidth b) (refusal 3 0)
+    (refuseIf (badRevolutions b) (refusal 4 0)
+    (refuseIf (badSpan b) (refusal 5 0)
+    (refuseIf (badHeads b) (refusal 6 0)
+    (footerFault b))))))

@@ -1,0 +1,4 @@
+pub mod Table
+pub mod Opens
+pub mod OpenLaws
+pub mod RevolutionLaws

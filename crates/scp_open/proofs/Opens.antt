@@ -1,0 +1,219 @@
+-- An image opens exactly if it obeys: each test of a refusal fails exactly if its rule holds, and no refusal is found exactly if each test
+-- fails. Findings are compared by their number, which is 0 just for none.
+use Prim.Native.Nat.{ℕ, _+_, _-_, _<_, _≤_}
+use mathlib.Core.Path.{_≡_, refl, sym, ap}
+use mathlib.Core.Logic.{_↔_, _≢_, inl, inr, ⊎-map}
+use mathlib.Core.List.{List}
+use mathlib.Core.Bool.{Bool, true, false, not, _&&_, _||_, and-eq-true-iff, true≢false}
+use native.Mathlib.Omega.{arith}
+use lib.ListN.{length}
+use lib.Dec.{eqb, ltb}
+use borrow.Author.Tests.{ltb-false, le-ltb, eqb-true, eqb-false, eq-eqb, ne-eqb, not-false}
+use Rattle.flux.specs.declared.Refusal.{Refusal}
+use Rattle.octets.specs.Numbers.{byteAt, le16At}
+use Rattle.scp_header.specs.Refusals.{none}
+use Rattle.scp_header.specs.Header.{tableEnd, sizeLimit, trackSlots, mostRevolutions, revolutions, startTrack, endTrack, readWrite, hasFooter, width, heads, trackEntry, dataEnd, badSize, badSign, badWidth, badRevolutions, badSpan, badHeads}
+use Rattle.scp_header.specs.Footer.{footerAt, stringSlots, stringEntry, badFooter, zeroAt, zeroWithin, badStringOf, badString, stringFaultAt, stringFault, stringsFault, footerFault}
+use Rattle.scp_open.specs.Tracks.{headOf, headerSize, badSlot, badMark, fluxPast, badFlux, trackFaultAt, trackFault, tracksFault}
+use Rattle.scp_header.specs.HeaderFault.{headFault}
+use Rattle.scp_open.specs.Opening.{openFault}
+use Rattle.scp_open.specs.Validity.{StringHolds, FooterHolds, TrackHolds, Opens, OpensExactly}
+use Rattle.scp_header.proofs.Finding.{either, neither, from-none, none-from, not-refused, pass, not-excused, excuse, both-clear, clear-both, clear-below, Clear, clear-first, clear-from-all}
+
+-- ---- tests
+
+-- the second test fails where the first holds
+not-both : (x y : Bool) → x && y ≡ false → x ≡ true → y ≡ false
+not-both true y e q = e
+not-both false y e q = absurd (true≢false (sym q))
+
+never-both : (x y : Bool) → (x ≡ true → y ≡ false) → x && y ≡ false
+never-both true y h = h refl
+never-both false y h = refl
+
+-- a byte of a mark, and what is tested after it
+marked : (a v : ℕ) (rest : Bool) → eqb a v && rest ≡ true → (a ≡ v) × (rest ≡ true)
+marked a v rest e = let r = and-eq-true-iff (eqb a v) rest .0 e in (eqb-true a v (r .0), r .1)
+
+three-marked : (a v b w c x : ℕ) → eqb a v && (eqb b w && eqb c x) ≡ true → (a ≡ v) × (b ≡ w) × (c ≡ x)
+three-marked a v b w c x e =
+    let first = marked a v _ e in
+    let second = marked b w _ (first .1) in
+    (first .0, second .0, eqb-true c x (second .1))
+
+-- ---- strings
+
+module _ (b : List ℕ) (o : ℕ) where
+  string-good : badString b o ≡ false → StringHolds b o
+  unfolding badStringOf
+  string-good e =
+      let n = le16At b o in
+      let above = neither (ltb o tableEnd) _ e in
+      let below = neither (ltb (dataEnd b) (o + 3 + n)) _ (above .1) in
+      let text = neither (zeroWithin b (o + 2) n) _ (below .1) in
+      record {
+        above = ltb-false _ tableEnd (above .0);
+        below = ltb-false (dataEnd b) _ (below .0);
+        text = λ i h. eqb-false _ 0 (from-none (zeroAt b) (o + 2) n (text .0) (o + 2 + i) (omega arith) (omega arith));
+        ending = eqb-true _ 0 (not-false _ (text .1));
+      }
+
+  text-free : (n : ℕ) → ((i : ℕ) → i < n → byteAt b (o + 2 + i) ≢ 0) → zeroWithin b (o + 2) n ≡ false
+  text-free n h =
+      none-from (zeroAt b) (o + 2) n (λ j a z.
+      let i : o + 2 + (j - (o + 2)) ≡ j = omega arith in
+      ne-eqb (byteAt b j) 0 (rw i at (h (j - (o + 2)) (omega arith))))
+
+  good-string : StringHolds b o → badString b o ≡ false
+  unfolding badStringOf
+  good-string h = simp (le-ltb _ _ (h .above), le-ltb _ _ (h .below), text-free _ (h .text), h .ending)
+
+pub string-holds : (b : List ℕ) (o j : ℕ) → (stringFaultAt b o j .number ≡ 0) ↔ (o ≢ 0 → StringHolds b o)
+unfolding stringFaultAt
+string-holds b o j = (
+  λ e n. string-good b o (not-refused (badString b o) 7 j none (not-excused (eqb o 0) _ e (ne-eqb o 0 n)) .0),
+  λ h. excuse (eqb o 0) _ (λ n. pass (badString b o) _ none (good-string b o (h (eqb-false o 0 n))) refl),
+)
+
+pub strings-hold : (b : List ℕ)
+    → (stringsFault b .number ≡ 0) ↔ ((j : ℕ) → j < stringSlots → stringEntry b j ≢ 0 → StringHolds b (stringEntry b j))
+strings-hold b = clear-below (stringFault b) _ stringSlots (λ j. string-holds b (stringEntry b j) j)
+
+-- ---- the footer
+
+module _ (b : List ℕ) where
+  -- "FPCS" is there
+  abbrev footerSigned : Bool
+  footerSigned =
+      eqb (byteAt b (footerAt b + 0x2C)) 0x46 && (eqb (byteAt b (footerAt b + 0x2D)) 0x50
+      && (eqb (byteAt b (footerAt b + 0x2E)) 0x43 && eqb (byteAt b (footerAt b + 0x2F)) 0x53))
+
+  footer-good : footerFault b .number ≡ 0 → hasFooter b ≡ true → FooterHolds b
+  unfolding footerFault
+  footer-good e f =
+      let footer = not-refused (badFooter b) 6 0 _ e in
+      let room = neither (ltb (length b) 736) _ (not-both (hasFooter b) _ (footer .0) f) in
+      let sign = neither (not footerSigned) _ (room .1) in
+      let first = marked _ 0x46 _ (not-false footerSigned (sign .0)) in
+      let others = three-marked _ 0x50 _ 0x43 _ 0x53 (first .1) in
+      record {
+        room = ltb-false _ 736 (room .0);
+        sign = (first .0, others .0, others .1, others .2);
+        version = ltb-false _ 0x16 (sign .1);
+        strings = strings-hold b .0 (not-excused (not (hasFooter b)) _ (footer .1) (simp f));
+      }
+
+  good-footer : (hasFooter b ≡ true → FooterHolds b) → footerFault b .number ≡ 0
+  unfolding footerFault
+  good-footer hold =
+      pass (badFooter b) _ _ (never-both (hasFooter b) _ (λ f. whole (hold f)))
+      (excuse (not (hasFooter b)) _ (λ f. strings-hold b .1 (hold (not-false _ f) .strings)))
+    where
+      whole : FooterHolds b → ltb (length b) 736 || (not footerSigned || ltb (byteAt b (footerAt b + 0x2B)) 0x16) ≡ false
+      whole h = simp (le-ltb _ _ (h .room), h .sign .0, h .sign .1, h .sign .2, h .sign .3, le-ltb _ _ (h .version))
+
+  pub footer-holds : (footerFault b .number ≡ 0) ↔ (hasFooter b ≡ true → FooterHolds b)
+  footer-holds = (footer-good, good-footer)
+
+-- ---- a track
+
+module _ (b : List ℕ) (e t : ℕ) where
+  track-good : trackFaultAt b e t .number ≡ 0 → e ≢ 0 → TrackHolds b e t
+  unfolding trackFaultAt
+  track-good z n =
+      let slot = not-refused (badSlot b t) 8 t _ (not-excused (eqb e 0) _ z (ne-eqb e 0 n)) in
+      let low = not-refused (ltb e tableEnd) 9 t _ (slot .1) in
+      let high = not-refused (ltb (dataEnd b) (e + headerSize b)) 9 t _ (low .1) in
+      let mark = not-refused (badMark b e t) 9 t _ (high .1) in
+      let flux = not-refused (badFlux b e) 10 t none (mark .1) .0 in
+      let from = neither (ltb t (startTrack b)) _ (slot .0) in
+      let to = neither (ltb (endTrack b) t) _ (from .1) in
+      let side = neither (eqb (heads b) 1 && eqb (headOf t) 1) _ (to .1) in
+      let first = marked (byteAt b e) 0x54 _ (not-false _ (mark .0)) in
+      let others = three-marked (byteAt b (e + 1)) 0x52 (byteAt b (e + 2)) 0x4B (byteAt b (e + 3)) t (first .1) in
+      record {
+        from = ltb-false _ (startTrack b) (from .0);
+        to = ltb-false (endTrack b) _ (to .0);
+        even = λ h. let c = eqb-false (headOf t) 1 (not-both _ _ (side .0) (eq-eqb _ _ h)) in omega arith;
+        odd = λ h. let c = eqb-false (headOf t) 0 (not-both _ _ (side .1) (eq-eqb _ _ h)) in omega arith;
+        above = ltb-false _ tableEnd (low .0);
+        below = ltb-false (dataEnd b) _ (high .0);
+        sign = (first .0, others .0, others .1);
+        number = others .2;
+        flux = λ k h. ltb-false (dataEnd b) _ (from-none (fluxPast b e) 0 (revolutions b) flux k (omega arith) (omega arith));
+      }
+
+  good-track : (e ≢ 0 → TrackHolds b e t) → trackFaultAt b e t .number ≡ 0
+  unfolding trackFaultAt
+  good-track hold =
+      excuse (eqb e 0) _ (λ n.
+      let h = hold (eqb-false e 0 n) in
+      let even : eqb (heads b) 1 && eqb (headOf t) 1 ≡ false = never-both _ _ (λ q. simp (h .even (eqb-true _ _ q))) in
+      let odd : eqb (heads b) 2 && eqb (headOf t) 0 ≡ false = never-both _ _ (λ q. simp (h .odd (eqb-true _ _ q))) in
+      pass (badSlot b t) _ _ (simp (le-ltb _ _ (h .from), le-ltb _ _ (h .to), even, odd))
+      (pass (ltb e tableEnd) _ _ (le-ltb _ _ (h .above))
+      (pass (ltb (dataEnd b) (e + headerSize b)) _ _ (le-ltb _ _ (h .below))
+      (pass (badMark b e t) _ _ (simp (h .sign .0, h .sign .1, h .sign .2, eq-eqb _ _ (h .number)))
+      (pass (badFlux b e) _ none (none-from (fluxPast b e) 0 (revolutions b) (λ k a z. le-ltb _ _ (h .flux k (omega arith)))) refl)))))
+
+  pub track-holds : (trackFaultAt b e t .number ≡ 0) ↔ (e ≢ 0 → TrackHolds b e t)
+  track-holds = (track-good, good-track)
+
+pub tracks-hold : (b : List ℕ)
+    → (tracksFault b .number ≡ 0) ↔ ((t : ℕ) → t < trackSlots → trackEntry b t ≢ 0 → TrackHolds b (trackEntry b t) t)
+tracks-hold b = clear-below (trackFault b) _ trackSlots (λ t. track-holds b (trackEntry b t) t)
+
+-- ---- opening
+
+module _ (b : List ℕ) where
+  pub opens : openFault b .number ≡ 0 → Opens b
+  unfolding openFault headFault badSize
+  opens e =
+      let found = both-clear (headFault b) (tracksFault b) e in
+      let size = not-refused (badSize b) 0 0 _ (found .0) in
+      let sign = not-refused (badSign b) 1 0 _ (size .1) in
+      let words = not-refused (badWidth b) 2 0 _ (sign .1) in
+      let turns = not-refused (badRevolutions b) 3 0 _ (words .1) in
+      let span = not-refused (badSpan b) 4 0 _ (turns .1) in
+      let sides = not-refused (badHeads b) 5 0 (footerFault b) (span .1) in
+      let lengths = neither (ltb (length b) tableEnd) _ (size .0) in
+      let some = neither (ltb (revolutions b) 1) _ (turns .0) in
+      let few = neither (ltb mostRevolutions (revolutions b)) _ (some .1) in
+      let ends = neither (ltb (endTrack b) (startTrack b)) _ (span .0) in
+      record {
+        least = ltb-false _ tableEnd (lengths .0);
+        most = ltb-false sizeLimit _ (lengths .1);
+        sign = three-marked _ 0x53 _ 0x43 _ 0x50 (not-false _ (sign .0));
+        wordWidth = ⊎-map (eqb-true _ 0) (eqb-true _ 16) (either (eqb (width b) 0) _ (not-false _ (words .0)));
+        revolutionsLeast = ltb-false _ 1 (some .0);
+        revolutionsMost = ltb-false mostRevolutions _ (few .0);
+        readWriteOne = λ w. eqb-true _ 1 (not-false _ (not-both (readWrite b) _ (few .1) w));
+        span = ltb-false _ (startTrack b) (ends .0);
+        spanEnd = let h = ltb-false 167 (endTrack b) (ends .1) in omega arith;
+        sides = ltb-false 2 _ (sides .0);
+        footer = footer-holds b .0 (sides .1);
+        tracks = tracks-hold b .0 (found .1);
+      }
+
+  pub clears : Opens b → openFault b .number ≡ 0
+  unfolding openFault headFault badSize
+  clears h =
+      let turns : readWrite b && not (eqb (revolutions b) 1) ≡ false = never-both (readWrite b) _ (λ w. simp (h .readWriteOne w)) in
+      let last : endTrack b ≤ 167 = omega arith in
+      clear-both (headFault b) (tracksFault b)
+      (pass (badSize b) _ _ (simp (le-ltb _ _ (h .least), le-ltb _ _ (h .most)))
+      (pass (badSign b) _ _ (simp (h .sign .0, h .sign .1, h .sign .2))
+      (pass (badWidth b) _ _ (elim (h .wordWidth) [ inl w ↦ simp w | inr w ↦ simp w ])
+      (pass (badRevolutions b) _ _ (simp (le-ltb _ _ (h .revolutionsLeast), le-ltb _ _ (h .revolutionsMost), turns))
+      (pass (badSpan b) _ _ (simp (le-ltb _ _ (h .span), le-ltb _ _ last))
+      (pass (badHeads b) _ _ (le-ltb _ _ (h .sides))
+      (footer-holds b .1 (h .footer))))))))
+      (tracks-hold b .1 (h .tracks))
+
+-- a finding of opening with number 0 is none
+pub clear-open : (b : List ℕ) → Clear (openFault b)
+unfolding openFault
+clear-open b = clear-first (headFault b) (tracksFault b) (clear-from-all (trackFault b) 0 trackSlots)
+
+pub opens-exactly : OpensExactly
+opens-exactly b = (λ e. opens b (ap (λ (f : Refusal). f .number) e), λ h. clear-open b (clears b h))

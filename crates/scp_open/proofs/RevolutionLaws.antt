@@ -1,0 +1,34 @@
+-- A revolution is present where its number is below the image's, and its place is the exact sum.
+use Prim.Native.Nat.{ℕ, _+_, _<_, _≤_}
+use mathlib.Core.Path.{_≡_, sym, ap}
+use mathlib.Core.List.{List}
+use native.Mathlib.Omega.{arith}
+use borrow.Author.Tests.{lt-ltb, le-ltb, le-leb}
+use Rattle.scp_header.specs.Header.{revolutions}
+use Rattle.scp_open.specs.Tracks.{offsetOf}
+use Rattle.scp_open.specs.Revolutions.{dataOf, revolutionOf}
+use Rattle.scp_open.specs.declared.FileOffset.{FileOffset}
+use Rattle.scp_open.specs.declared.RevolutionData.{RevolutionData}
+use Rattle.scp_open.specs.declared.Revolution.the-variants.{Absent, Present}
+
+-- a revolution's numbers, one by one
+pub data-is : {d d′ w w′ : ℕ} {p : FileOffset} {n : ℕ} → d ≡ d′ → w ≡ w′ → p .0 ≡ n
+    → _≡_ {A = RevolutionData} (record { duration = d; words = w; place = p }) (record { duration = d′; words = w′; place = record { 0 = n } })
+data-is {d} {d′} {w} {w′} {p} {n} e f g =
+    let q : p ≡ record { 0 = n } = ap (λ (x : ℕ). record { 0 = x }) g in
+    cc
+
+module _ (b : List ℕ) (e k : ℕ) where
+  pub absent : revolutions b ≤ k → Absent ≡ revolutionOf b e k
+  unfolding revolutionOf
+  absent h = sym (simp (le-ltb k (revolutions b) h))
+
+  pub present : k < revolutions b → Present (dataOf b e k) ≡ revolutionOf b e k
+  unfolding revolutionOf
+  present h = sym (simp (lt-ltb k (revolutions b) h))
+
+-- two numbers of 32 bits
+pub exact-offset : (h d : ℕ) → h < 4_294_967_296 → d < 4_294_967_296 → offsetOf h d ≡ h + d
+exact-offset h d p q =
+    let fits : h + d ≤ 18_446_744_073_709_551_615 = omega arith in
+    simp (le-leb (h + d) 18_446_744_073_709_551_615 fits)

@@ -1,0 +1,48 @@
+-- Opening: refusals 1 to 11 in their order, and the opened image (01, Layout and Numbers of refusal).
+use Prim.Native.Nat.{ℕ}
+use mathlib.Core.List.{List}
+use mathlib.Core.Bool.{cond}
+use lib.ListN.{replicate}
+use Rattle.flux.specs.declared.Refusal.{Refusal}
+use Rattle.octets.specs.Numbers.{byteAt}
+use Rattle.scp_header.specs.Refusals.{passes, firstOf}
+use Rattle.scp_header.specs.Header.{trackSlots, revolutions, startTrack, endTrack, flags, width, heads, storedSum, entries}
+use Rattle.scp_header.specs.HeaderFault.{headFault}
+use Rattle.scp_open.specs.Tracks.{tracksFault}
+use Rattle.scp_open.specs.declared.Header.{Header}
+use Rattle.scp_open.specs.declared.Opened.{Opened}
+
+-- Refusals 1 to 11.
+unfoldable pub openFault : List ℕ → Refusal
+openFault b = firstOf (headFault b) (tracksFault b)
+
+-- The header as it is handed out.
+unfoldable pub headerOf : List ℕ → Header
+headerOf b =
+    record {
+      version = byteAt b 0x03;
+      disk = byteAt b 0x04;
+      revolutions = revolutions b;
+      start = startTrack b;
+      end = endTrack b;
+      flags = flags b;
+      width = width b;
+      heads = heads b;
+      checksum = storedSum b;
+    }
+
+-- No header: what stands beside a refusal.
+abbrev pub noHeader : Header
+noHeader =
+    record { version = 0; disk = 0; revolutions = 0; start = 0; end = 0; flags = 0; width = 0; heads = 0; checksum = 0 }
+
+-- An image that is not refused, with its header and its table.
+abbrev pub openedImage : Refusal → List ℕ → Opened
+openedImage f b = record { refusal = f; header = headerOf b; table = entries b }
+
+-- A refused image: no header, and no track in the table.
+abbrev pub refusedImage : Refusal → Opened
+refusedImage f = record { refusal = f; header = noHeader; table = replicate trackSlots 0 }
+
+unfoldable pub openedOf : List ℕ → Opened
+openedOf b = cond (passes (openFault b)) (openedImage (openFault b) b) (refusedImage (openFault b))

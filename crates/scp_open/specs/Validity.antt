@@ -1,0 +1,62 @@
+-- What an image must obey to be opened, as a list of plain statements, and the claim that refusals 1 to 11 refuse exactly what breaks it
+-- (01: "accepts exactly what none of them refuses").
+use Prim.Native.Nat.{ℕ, _+_, _*_, _<_, _≤_}
+use mathlib.Core.Path.{_≡_}
+use mathlib.Core.Logic.{_↔_, _≢_, _⊎_}
+use mathlib.Core.List.{List}
+use mathlib.Core.Bool.{true}
+use lib.ListN.{length}
+use Rattle.octets.specs.Numbers.{byteAt, le16At}
+use Rattle.scp_header.specs.Refusals.{none}
+use Rattle.scp_header.specs.Header.{sizeLimit, tableEnd, trackSlots, mostRevolutions, revolutions, startTrack, endTrack, readWrite, hasFooter, width, heads, trackEntry, dataEnd}
+use Rattle.scp_header.specs.Footer.{footerAt, stringSlots, stringEntry}
+use Rattle.scp_open.specs.Tracks.{headOf, headerSize, countAt, fluxAt}
+use Rattle.scp_open.specs.Opening.{openFault}
+
+-- A string at offset o is well placed and well formed.
+pub record StringHolds (b : List ℕ) (o : ℕ) : Type 0 where
+  pub above : tableEnd ≤ o
+  pub below : o + 3 + le16At b o ≤ dataEnd b
+  pub text : (i : ℕ) → i < le16At b o → byteAt b (o + 2 + i) ≢ 0
+  pub ending : byteAt b (o + 2 + le16At b o) ≡ 0
+
+-- The footer is there whole, with "FPCS", version 0x16 or later, and every present string holds.
+pub record FooterHolds (b : List ℕ) : Type 0 where
+  pub room : 736 ≤ length b
+  pub sign :
+      (byteAt b (footerAt b + 0x2C) ≡ 0x46) × (byteAt b (footerAt b + 0x2D) ≡ 0x50) × (byteAt b (footerAt b + 0x2E) ≡ 0x43)
+      × (byteAt b (footerAt b + 0x2F) ≡ 0x53)
+  pub version : 0x16 ≤ byteAt b (footerAt b + 0x2B)
+  pub strings : (j : ℕ) → j < stringSlots → stringEntry b j ≢ 0 → StringHolds b (stringEntry b j)
+
+-- Track t with entry e lies from start to end on a side that is held, has its header in place with "TRK" and its number, and the flux
+-- of each revolution ends at or below E.
+pub record TrackHolds (b : List ℕ) (e t : ℕ) : Type 0 where
+  pub from : startTrack b ≤ t
+  pub to : t ≤ endTrack b
+  pub even : heads b ≡ 1 → headOf t ≡ 0
+  pub odd : heads b ≡ 2 → headOf t ≡ 1
+  pub above : tableEnd ≤ e
+  pub below : e + headerSize b ≤ dataEnd b
+  pub sign : (byteAt b e ≡ 0x54) × (byteAt b (e + 1) ≡ 0x52) × (byteAt b (e + 2) ≡ 0x4B)
+  pub number : byteAt b (e + 3) ≡ t
+  pub flux : (k : ℕ) → k < revolutions b → fluxAt b e k + 2 * countAt b e k ≤ dataEnd b
+
+-- The image obeys all that opening asks.
+pub record Opens (b : List ℕ) : Type 0 where
+  pub least : tableEnd ≤ length b
+  pub most : length b ≤ sizeLimit
+  pub sign : (byteAt b 0 ≡ 0x53) × (byteAt b 1 ≡ 0x43) × (byteAt b 2 ≡ 0x50)
+  pub wordWidth : (width b ≡ 0) ⊎ (width b ≡ 16)
+  pub revolutionsLeast : 1 ≤ revolutions b
+  pub revolutionsMost : revolutions b ≤ mostRevolutions
+  pub readWriteOne : readWrite b ≡ true → revolutions b ≡ 1
+  pub span : startTrack b ≤ endTrack b
+  pub spanEnd : endTrack b < trackSlots
+  pub sides : heads b ≤ 2
+  pub footer : hasFooter b ≡ true → FooterHolds b
+  pub tracks : (t : ℕ) → t < trackSlots → trackEntry b t ≢ 0 → TrackHolds b (trackEntry b t) t
+
+-- Opening refuses exactly what does not obey.
+abbrev pub OpensExactly : Type 0
+OpensExactly = (b : List ℕ) → (openFault b ≡ none) ↔ Opens b
