@@ -8,4 +8,4 @@ use Rattle.examples.specs.Table.{AllSay, starred}
 
 pub starred-hold : AllSay starred
 unfolding sumOf wordsOf bytesOf intervals openTime wordsFor firstInexpressible
-starred-hold = (refl, (refl, (refl, (refl, (refl, (refl, (refl, (refl, (λ places. refl, (λ places. refl, (refl, tt)))))))))))
+starred-hold = (refl, (refl, (refl, (refl, (refl, (refl, (refl, (refl, (λ places. refl, (λ places. refl, ((refl, refl), ((refl, refl), (refl, tt)))))))))))))

@@ -4,6 +4,7 @@ use mathlib.Core.Path.{_≡_}
 use mathlib.Core.List.{List, [], _∷_}
 use lib.ListN.{length}
 use Rattle.octets.specs.Sums.{byteSum}
+use Rattle.scp_open.specs.Tracks.{cylinderOf, headOf}
 use Rattle.flux.specs.Answers.{timeRefused, fills, refuses, reading, writing}
 
 pub data Example : Type 0 where
@@ -15,6 +16,8 @@ pub data Example : Type 0 where
   refusesTime : ℕ → Example
   -- bytes and their sum
   sums : List ℕ → ℕ → Example
+  -- a track number, its cylinder and its head
+  tracks : ℕ → ℕ → ℕ → Example
 
 -- What an example says, in the definitions that the promises use: with just as many places as its answer takes, or with any number
 -- of places where it is refused.
@@ -23,6 +26,7 @@ Says (reads s ts o) = reading s (length ts) ≡ fills (length ts ∷ o ∷ []) t
 Says (writes t s) = writing (t ∷ []) (length s) ≡ fills (length s ∷ []) s
 Says (refusesTime t) = (places : ℕ) → writing (t ∷ []) places ≡ refuses timeRefused 0
 Says (sums s n) = byteSum s ≡ n
+Says (tracks t c h) = (cylinderOf t ≡ c) × (headOf t ≡ h)
 
 -- Every example of a list holds.
 abbrev pub AllSay : List Example → Type 0
@@ -41,5 +45,7 @@ starred =
     ∷ writes 131_071 (0x00 ∷ 0x00 ∷ 0xFF ∷ 0xFF ∷ [])
     ∷ refusesTime 0
     ∷ refusesTime 65_536
+    ∷ tracks 0x0B 5 1
+    ∷ tracks 0x50 40 0
     ∷ sums (0xFF ∷ 0xFF ∷ 0xFF ∷ 0xFF ∷ []) 1_020
     ∷ []

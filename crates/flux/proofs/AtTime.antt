@@ -1,5 +1,5 @@
 -- The definitions of writing at the time of number i of some times, and past the last time.
-use mathlib.Core.Path.{_≡_, refl, sym, ap, _∙_}
+use mathlib.Core.Path.{_≡_, refl, ap}
 use Prim.Native.Nat.{ℕ, zero, suc, _+_, _*_, _/_, _%_, _<_, _≤_}
 use native.Mathlib.Omega.{arith}
 use native.Mathlib.Numerals.{add-one}
@@ -12,7 +12,7 @@ use borrow.Author.Tests.{leb-true, le-leb, eqb-false, ne-eqb, not-true}
 use Rattle.octets.specs.Numbers.{be16Bytes}
 use Rattle.flux.specs.Coding.{bytesOf}
 use Rattle.flux.specs.Reading.{zeroTicks}
-use Rattle.flux.specs.Writing.{tickLimit, expressible, wordsForTime, wordsFor, firstInexpressible}
+use Rattle.flux.specs.Writing.{tickLimit, expressible, wordsFor, firstInexpressible}
 
 -- ---- what it takes to be expressible
 

@@ -1,14 +1,14 @@
 -- A time within the limit can be expressed exactly if some words read as that one interval with nothing open: its own words do, and the
 -- interval of any words is no multiple of the ticks of a zero word, since the closing word is not zero and below them.
-use mathlib.Core.Path.{_≡_, refl, _∙_}
+use mathlib.Core.Path.{_≡_}
 use Prim.Native.Nat.{ℕ, zero, suc, _+_, _*_, _/_, _%_, _<_, _≤_}
 use native.Mathlib.Omega.{arith}
 use mathlib.Core.List.{List, [], _∷_, _++_, append-nil}
-use lib.ListN.{getD, replicate}
+use lib.ListN.{replicate}
 use borrow.Author.Tests.{le-leb, lt-leb}
 use Rattle.flux.specs.Coding.{Words}
 use Rattle.flux.specs.Reading.{zeroTicks, intervals, openTime}
-use Rattle.flux.specs.Writing.{tickLimit, expressible, wordsForTime}
+use Rattle.flux.specs.Writing.{tickLimit, wordsForTime}
 use Rattle.flux.specs.Theorems.{ReadsAs, RefusesJustTheInexpressible}
 use Rattle.flux.proofs.AtTime.{Expressible, expressed, expressing}
 use Rattle.flux.proofs.RoundTrips.{time-closes, time-opens-nothing}

@@ -7,8 +7,6 @@ use lib.Dec.{ltb}
 use Rattle.flux.specs.Coding.{wordsOf, bytesOf, badFluxSize}
 use Rattle.flux.specs.Reading.{zeroTicks, intervals, openTime}
 use Rattle.flux.specs.Writing.{firstInexpressible, wordsFor}
-use Rattle.flux.specs.declared.Refusal.{Refusal}
-use Rattle.flux.specs.declared.Cursor.{Cursor}
 use Rattle.flux.specs.declared.Step.{Step}
 use Rattle.flux.specs.declared.Step.the-variants as step
 use Rattle.flux.specs.declared.Filled.{Filled}

@@ -1,7 +1,7 @@
 // Flux words and the intervals that they stand for (SCP 1.6, track data): a cursor that steps from interval to interval, all
 // intervals at one go, and the words of times.
 ghost use mathlib.Core.Path.{_≡_};
-ghost use Prim.Native.Nat.{ℕ, _+_, _*_, _<_, _≤_};
+ghost use Prim.Native.Nat.{_+_, _*_, _<_, _≤_};
 ghost use lib.ListN.{length, replicate, drop};
 ghost use lib.Dec.{leb};
 ghost use lib.Seq.{sets};

@@ -4,7 +4,6 @@ use mathlib.Core.Path.{_≡_}
 use mathlib.Core.List.{List}
 use mathlib.Core.Bool.{true, false, or-true}
 use lib.ListN.{length}
-use lib.Dec.{ltb}
 use borrow.Author.Tests.{lt-ltb, le-ltb, ltb-false}
 use Rattle.scp_header.specs.Header.{tableEnd, sizeLimit, badSize}
 use Rattle.scp_header.specs.HeaderFault.{headFault}

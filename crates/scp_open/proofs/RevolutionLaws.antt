@@ -1,12 +1,14 @@
 -- A revolution is present where its number is below the image's, and its place is the exact sum.
 use Prim.Native.Nat.{ℕ, _+_, _<_, _≤_}
-use mathlib.Core.Path.{_≡_, sym, ap}
+use mathlib.Core.Path.{_≡_, refl, sym, ap}
 use mathlib.Core.List.{List}
 use native.Mathlib.Omega.{arith}
+use lib.Ieee.{div, ofInt}
 use borrow.Author.Tests.{lt-ltb, le-ltb, le-leb}
 use Rattle.scp_header.specs.Header.{revolutions}
 use Rattle.scp_open.specs.Tracks.{offsetOf}
 use Rattle.scp_open.specs.Revolutions.{dataOf, revolutionOf}
+use Rattle.scp_open.specs.Speeds.{speedOf, ThreeHundred}
 use Rattle.scp_open.specs.declared.FileOffset.{FileOffset}
 use Rattle.scp_open.specs.declared.RevolutionData.{RevolutionData}
 use Rattle.scp_open.specs.declared.Revolution.the-variants.{Absent, Present}
@@ -32,3 +34,8 @@ pub exact-offset : (h d : ℕ) → h < 4_294_967_296 → d < 4_294_967_296 → o
 exact-offset h d p q =
     let fits : h + d ≤ 18_446_744_073_709_551_615 = omega arith in
     simp (le-leb (h + d) 18_446_744_073_709_551_615 fits)
+
+-- a duration of 8,000,000 ticks
+pub three-hundred : ThreeHundred
+unfolding speedOf div ofInt
+three-hundred = refl

@@ -1,8 +1,8 @@
 -- The count is that of the definition. The loop's invariant: what is counted, and the closing words from word i on, make up all.
-use mathlib.Core.Path.{_≡_, refl, sym, _∙_}
-use Prim.Native.Nat.{_+_, _*_, _-_, _/_, _≤_, _<_}
+use mathlib.Core.Path.{_≡_}
+use Prim.Native.Nat.{_+_, _-_, _≤_}
 use native.Mathlib.Omega.{arith}
-use lib.ListN.{length, drop}
+use lib.ListN.{drop}
 use borrow.Author.Needs.{needs}
 use Rattle.flux.specs.Coding.{wordsOf}
 use Rattle.flux.specs.Reading.{closingWords}

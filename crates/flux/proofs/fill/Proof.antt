@@ -1,7 +1,7 @@
 -- The intervals stand at the start of the times. The loop's invariant: n intervals are written, the intervals from word i on, with
 -- what is pending there, are still to be written, and the open time from there is that of the whole flux.
 use mathlib.Core.Path.{_≡_, refl, sym, _∙_}
-use Prim.Native.Nat.{_+_, _*_, _-_, _/_, _≤_, _<_}
+use Prim.Native.Nat.{_+_, _*_, _-_, _≤_, _<_}
 use mathlib.Core.List.{_∷_}
 use native.Mathlib.Omega.{arith}
 use lib.ListN.{length, drop}

@@ -1,11 +1,10 @@
 -- The words stand at the start of the flux bytes. The loop's invariant: the bytes of the times before i are written, and those of the
 -- times from i on are still to be written.
-use mathlib.Core.Path.{_≡_, sym, ap, _∙_, subst}
-use mathlib.Core.List.{List, [], _∷_, _++_}
-use Prim.Native.Nat.{ℕ, _+_, _*_, _-_, _/_, _%_, _≤_, _<_}
+use mathlib.Core.Path.{_≡_, sym, ap, _∙_}
+use mathlib.Core.List.{List, _∷_, _++_}
+use Prim.Native.Nat.{ℕ, _+_, _*_, _-_, _/_, _%_, _≤_}
 use native.Mathlib.Omega.{arith}
 use lib.ListN.{length, getD, drop, set, replicate, length-replicate}
-use lib.Seq.{sets}
 use borrow.Author.Needs.{needs}
 use Rattle.octets.specs.Numbers.{be16Bytes}
 use Rattle.flux.specs.Coding.{bytesOf}

@@ -1,7 +1,6 @@
 -- Every index is below the length. The measure is what is left of the slice.
 use Prim.Native.Nat.{_≤_, _-_}
 use lib.ListN.{length}
-use native.Mathlib.Omega.{arith}
 use borrow.Author.Needs.{needs}
 use Rattle.flux_test.proofs.bytes.Statement.{statement}
 use Rattle.flux_test.proofs.bytes.Tie as tie

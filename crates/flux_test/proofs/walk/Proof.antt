@@ -1,5 +1,4 @@
 -- The measure is the number of steps that are left; nothing else has to hold.
-use native.Mathlib.Omega.{arith}
 use borrow.Author.Needs.{needs}
 use Rattle.flux_test.proofs.walk.Statement.{statement}
 use Rattle.flux_test.proofs.walk.Tie as tie

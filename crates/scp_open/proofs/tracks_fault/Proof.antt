@@ -5,7 +5,7 @@ use Prim.Native.Nat.{ℕ, _-_, _≤_}
 use lib.ListN.{getD}
 use borrow.Author.Needs.{needs}
 use Rattle.scp_header.specs.Search.{firstFrom}
-use Rattle.scp_header.specs.Header.{trackSlots, trackEntry, entries}
+use Rattle.scp_header.specs.Header.{trackSlots, trackEntry}
 use Rattle.scp_open.specs.Tracks.{trackFaultAt, trackFault, tracksFault}
 use Rattle.scp_header.proofs.Loops.{found-here, found-next, found-none}
 use Rattle.scp_open.proofs.Table.{list-at}

@@ -1,7 +1,7 @@
 -- A step answers what the definition gives. The loop's invariant: the definition, from word i on with what is pending there,
 -- gives what it gives from the cursor on; what is pending is bounded, so that no sum wraps.
 use mathlib.Core.Path.{_≡_, refl, sym, _∙_}
-use Prim.Native.Nat.{_+_, _*_, _-_, _/_, _≤_, _<_}
+use Prim.Native.Nat.{_*_, _-_, _≤_}
 use native.Mathlib.Omega.{arith}
 use lib.ListN.{length, drop}
 use borrow.Author.Needs.{needs}

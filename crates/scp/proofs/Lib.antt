@@ -1,0 +1,4 @@
+pub mod Asking
+pub mod FoundLaws
+pub mod Lengths
+pub mod Judging

@@ -1,0 +1,62 @@
+-- The track is found or refused as the definition says, and its numbers are the definition's.
+use mathlib.Core.Path.{sym, _∙_}
+use borrow.Author.Needs.{needs}
+use Rattle.scp.specs.Answers.{trackAnswer}
+use Rattle.scp.proofs.Asking.{unless-refused, unless-passes, track-passes, track-same}
+use Rattle.scp.proofs.FoundLaws.{found-at, not-found}
+use Rattle.scp.proofs.track.Statement.{statement}
+use Rattle.scp.proofs.track.Tie as tie
+
+find-track-requires : tie.Need-find-track-requires
+find-track-requires c κs = search needs
+
+enum-known-found : tie.Need-enum-known-found
+enum-known-found c = search needs
+
+cylinder-requires : tie.Need-cylinder-requires
+cylinder-requires c κs = search needs
+
+head-requires : tie.Need-head-requires
+head-requires c κs = search needs
+
+cast-t9 : tie.Need-cast-t9
+cast-t9 c = search needs
+
+revolutions-of-requires : tie.Need-revolutions-of-requires
+revolutions-of-requires c κs = search needs
+
+enum-known-found-2 : tie.Need-enum-known-found-2
+enum-known-found-2 c = search needs
+
+returns : tie.Need-returns
+unfolding trackAnswer
+returns c =
+    let at-head = c .before in
+    let at-cylinder = at-head .before in
+    let at-found = at-cylinder .before .before in
+    let at-find = at-found .before .before in
+    let there = found-at _ _ (sym (at-found .found .given .1) ∙ at-find .find-track .ensures) in
+    unless-passes _ _ (track-passes _ _ (there .present))
+    (track-same (at-cylinder .cylinder .ensures) (at-head .head .ensures) (there .same) (c .revolutions-of .ensures .0))
+
+returns-2 : tie.Need-returns-2
+unfolding trackAnswer
+returns-2 c =
+    let at-found = c .before in
+    let at-find = at-found .before .before in
+    let none = not-found _ _ (sym (at-found .found2 .given .1) ∙ at-find .find-track .ensures) in
+    unless-refused _ _ (none .refuses) (none .number)
+
+pub track-spec : {M : Type 1} → statement M
+track-spec =
+    tie.close
+    (tie.spec
+    find-track-requires
+    enum-known-found
+    cylinder-requires
+    head-requires
+    cast-t9
+    revolutions-of-requires
+    enum-known-found-2
+    returns
+    returns-2)

@@ -1,0 +1,52 @@
+-- The test is that of the definition, and the sum that of the bytes from 0x10 on.
+use mathlib.Core.Path.{sym, ap, _∙_}
+use Prim.Native.Nat.{_-_}
+use native.Mathlib.Omega.{arith}
+use lib.ListN.{length, drop, length-drop}
+use lib.Seq.{take-all}
+use Rattle.octets.specs.Sums.{byteSum}
+use borrow.Author.Needs.{needs}
+use borrow.Author.Tests.{eq-eqb, ne-eqb}
+use Rattle.scp_header.specs.Header.{trueSum}
+use Rattle.scp.specs.Questions.{wantedSum}
+use Rattle.scp.proofs.wanted_sum.Statement.{statement}
+use Rattle.scp.proofs.wanted_sum.Tie as tie
+
+shared-slice-read-if1 : tie.Need-shared-slice-read-if1
+shared-slice-read-if1 c = search needs
+
+returns : tie.Need-returns
+unfolding wantedSum trueSum
+returns c = sym (simp (eq-eqb _ _ (c .if1 .taken)))
+
+sub-byte-sum : tie.Need-sub-byte-sum
+sub-byte-sum c = search needs
+
+part-byte-sum-start : tie.Need-part-byte-sum-start
+part-byte-sum-start c = search needs
+
+part-byte-sum-end : tie.Need-part-byte-sum-end
+part-byte-sum-end c = search needs
+
+byte-sum-requires : tie.Need-byte-sum-requires
+byte-sum-requires c κs = search needs
+
+returns-2 : tie.Need-returns-2
+unfolding wantedSum trueSum
+returns-2 c =
+    let at-else = c .before .before in
+    let b = at-else .before .before .before .args .image .now in
+    c .byte-sum .ensures ∙ ap byteSum (take-all (length b - 16) (drop 16 b) (omega (arith, length-drop 16 b)))
+    ∙ sym (simp (ne-eqb _ _ (at-else .if1 .left)))
+
+pub wanted-sum-spec : {M : Type 1} → statement M
+wanted-sum-spec =
+    tie.close
+    (tie.spec
+    shared-slice-read-if1
+    returns
+    sub-byte-sum
+    part-byte-sum-start
+    part-byte-sum-end
+    byte-sum-requires
+    returns-2)

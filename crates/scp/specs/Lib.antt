@@ -1,0 +1,4 @@
+pub mod Questions
+pub mod Durations
+pub mod Answers
+pub mod Theorems

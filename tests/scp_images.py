@@ -1,0 +1,280 @@
+#!/usr/bin/env python3
+"""Images for crates/scp_test and crates/scp_list, and what listing and asking them must print.
+
+Written from the rules and the public text of revision 1.6 alone: an image is taken apart into owned pieces first, and refused by the
+first rule that a piece breaks. It shares nothing with the Rattle code.
+
+    python3 tests/scp_images.py images      writes the images to crates/scp_test/data and crates/scp_list/stdin
+    python3 tests/scp_images.py stdout      prints what crates/scp_test must print
+    python3 tests/scp_images.py list        prints what crates/scp_list must print
+    python3 tests/scp_images.py same        fails where the stored images are not those made here
+"""
+import pathlib
+import struct
+import sys
+from fractions import Fraction
+
+ROOT = pathlib.Path(__file__).resolve().parent.parent
+HEAD = 0x2B0
+
+
+class Refused(Exception):
+    def __init__(self, number, position=0):
+        self.number, self.position = number, position
+
+
+# ---- making images
+
+def track_block(number, revolutions, shift=0):
+    """A track header with its flux after it: revolutions are (duration, words)."""
+    head = b'TRK' + bytes([number])
+    place, flux = 4 + 12 * len(revolutions) + shift, b''
+    for duration, words in revolutions:
+        head += struct.pack('<III', duration, len(words), place + len(flux))
+        flux += struct.pack('>%dH' % len(words), *words)
+    return head + bytes(shift) + flux
+
+
+def image(tracks, revolutions=1, start=None, end=None, flags=1, heads=0, footer=None, tail=b'', width=0, version=0x16, disk=0):
+    """tracks: {number: [(duration, words), ..]}; footer: (strings, created, modified, versions)."""
+    table, body, at = [0] * 168, b'', HEAD
+    for number in sorted(tracks):
+        block = track_block(number, tracks[number])
+        table[number] = at
+        body, at = body + block, at + len(block)
+    body += tail
+    if footer is not None:
+        strings, created, modified, versions = footer
+        offsets = []
+        for s in strings:
+            if s is None:
+                offsets.append(0)
+            else:
+                offsets.append(HEAD + len(body))
+                body += struct.pack('<H', len(s)) + s + b'\0'
+        body += struct.pack('<6Iqq4s', *offsets, created, modified, bytes(versions)) + b'FPCS'
+        flags |= 0x20
+    start = min(tracks, default=0) if start is None else start
+    end = max(tracks, default=0) if end is None else end
+    rest = struct.pack('<168I', *table) + body
+    total = 0 if flags & 0x10 else sum(rest) & 0xFFFFFFFF
+    head = b'SCP' + bytes([version, disk, revolutions, start, end, flags, width, heads, 0]) + struct.pack('<I', total)
+    return bytearray(head + rest)
+
+
+def put(b, at, data):
+    b = bytearray(b)
+    b[at:at + len(data)] = data
+    return b
+
+
+def resum(b):
+    return put(b, 12, struct.pack('<I', sum(b[16:]) & 0xFFFFFFFF))
+
+
+A = image({0: [(8_000_000, [160, 0, 1, 240])]})
+
+
+def images():
+    five = lambda n: [(8_000_000 + 1000 * k * n, [100 + n, 0, 0, 7 + k] + [0] * (k % 3)) for k in range(5)]
+    strings = [b'maker', b'', None, b'creator', b'app 1.6', None]
+    two_sided = image({0: five(0), 1: five(1), 6: five(6)}, revolutions=5, footer=(strings, -1, 1_700_000_000, [0x10, 0x15, 0x12, 0x16]), version=0)
+    one_string = image({0: [(0, [])]}, footer=([b'x' * 7] + [None] * 5, 0, 0, [0, 0, 0, 0x16]))
+    end = len(A)
+    plain = {
+        'a': A,
+        'two_sided': two_sided,
+        'string_at_end': one_string,
+        'no_tracks': image({}),
+        'one_side_even': image({0: [(8_000_000, [5])], 2: [(4_000_000, [6])]}, heads=1),
+        'one_side_odd': image({1: [(8_000_000, [5])]}, heads=2),
+        'read_write': image({0: [(8_000_000, [5, 0])]}, flags=0x11),
+        'no_duration': image({0: [(0, [5])]}),
+        'open_only': image({0: [(8_000_000, [0, 0])]}),
+        'empty_flux_at_end': resum(put(put(A, HEAD + 8, bytes(4)), HEAD + 12, struct.pack('<I', end - HEAD))),
+        'empty_flux_past_end': resum(put(put(A, HEAD + 8, bytes(4)), HEAD + 12, struct.pack('<I', end - HEAD + 1))),
+        'count_5': resum(put(A, HEAD + 8, b'\5\0\0\0')),
+        'distance_largest': resum(put(A, HEAD + 12, b'\xFF' * 4)),
+        'count_largest': resum(put(A, HEAD + 8, b'\xFF' * 4)),
+        'entry_largest': resum(put(A, 0x10, b'\xFF' * 4)),
+        'entry_below_table_end': resum(put(A, 0x10, struct.pack('<I', 687))),
+        'header_past_end': resum(put(A, 0x10, struct.pack('<I', end - 15))),
+        'length_687': A[:687],
+        'empty': b'',
+        'not_scp': put(A, 1, b'X'),
+        'width_8': put(A, 9, b'\x08'),
+        'width_16': put(A, 9, b'\x10'),
+        'revolutions_0': put(A, 5, b'\0'),
+        'revolutions_6': put(A, 5, b'\6'),
+        'read_write_two': put(image({0: [(1, [1]), (1, [1])]}, revolutions=2), 8, b'\x11'),
+        'start_above_end': put(A, 6, b'\1'),
+        'end_168': put(A, 7, b'\xA8'),
+        'heads_3': put(A, 10, b'\3'),
+        'footer_735': put(A + bytes(23), 8, b'\x21'),
+        'footer_736': resum(put(image({}, footer=([None] * 6, 0, 0, [0, 0, 0, 0x16])), 0, b'SCP')),
+        'footer_unsigned': put(two_sided, len(two_sided) - 1, b'T'),
+        'footer_version_15': put(two_sided, len(two_sided) - 5, b'\x15'),
+        'string_past_end': put(one_string, HEAD + 16, b'\x08'),
+        'string_zero_inside': put(one_string, HEAD + 20, b'\0'),
+        'string_not_ended': put(one_string, HEAD + 25, b'x'),
+        'string_low': put(two_sided, len(two_sided) - 48 + 12, struct.pack('<I', 687)),
+        'slot_past_end': put(put(A, 0x14, struct.pack('<I', HEAD)), 7, b'\0'),
+        'slot_other_side': put(image({0: [(1, [5])], 1: [(1, [5])]}), 10, b'\1'),
+        'no_trk': put(A, HEAD + 2, b'X'),
+        'other_number': put(A, HEAD + 3, b'\1'),
+        'damaged': put(A, 12, struct.pack('<I', 981)),
+        'read_write_summed': put(image({0: [(8_000_000, [5, 0])]}, flags=0x11), 12, b'\1'),
+        'type_bit_is_not_read_write': image({0: [(8_000_000, [5])]}, flags=9),
+    }
+    return plain
+
+
+# ---- taking them apart
+
+class Image:
+    def __init__(self, b):
+        self.b = b = bytes(b)
+        if not 688 <= len(b) <= 1 << 28:
+            raise Refused(1)
+        if b[:3] != b'SCP':
+            raise Refused(2)
+        self.version, self.disk, self.turns, self.start, self.end, self.flags, self.width, self.heads = b[3:11]
+        self.stored, = struct.unpack_from('<I', b, 12)
+        if self.width not in (0, 16):
+            raise Refused(3)
+        self.read_write = bool(self.flags >> 4 & 1)
+        if self.turns not in range(1, 6) or self.read_write and self.turns != 1:
+            raise Refused(4)
+        if self.start > self.end or self.end > 167:
+            raise Refused(5)
+        if self.heads > 2:
+            raise Refused(6)
+        self.footer = None
+        self.data_end = len(b)
+        if self.flags >> 5 & 1:
+            self.read_footer()
+        self.entries = struct.unpack_from('<168I', b, 16)
+        self.tracks = {t: self.read_track(t, e) for t, e in enumerate(self.entries) if e}
+
+    def read_footer(self):
+        if len(self.b) < 736 or self.b[-4:] != b'FPCS' or self.b[-5] < 0x16:
+            raise Refused(7)
+        self.data_end -= 48
+        *offsets, created, modified = struct.unpack_from('<6Iqq', self.b, self.data_end)
+        self.footer = offsets, created, modified, self.b[-8:-4]
+        for j, o in enumerate(offsets):
+            if o and not self.string(o):
+                raise Refused(8, j)
+
+    def string(self, o):
+        area = self.b[:self.data_end]
+        if o < 688 or o + 3 > len(area):
+            return False
+        n = area[o] | area[o + 1] << 8
+        text = area[o + 2:o + 3 + n]
+        return len(text) == n + 1 and text.find(0) == n
+
+    def read_track(self, t, entry):
+        if not self.start <= t <= self.end or self.heads == 1 and t & 1 or self.heads == 2 and not t & 1:
+            raise Refused(9, t)
+        head = self.b[entry:min(entry + 4 + 12 * self.turns, self.data_end)]
+        if entry < 688 or len(head) != 4 + 12 * self.turns or head[:4] != b'TRK' + bytes([t]):
+            raise Refused(10, t)
+        turns = []
+        for duration, count, distance in struct.iter_unpack('<III', head[4:]):
+            place = entry + distance
+            if place + 2 * count > self.data_end:
+                raise Refused(11, t)
+            turns.append((duration, count, place))
+        return turns
+
+    def judge(self):
+        if self.stored != (0 if self.read_write else sum(self.b[16:]) % 2**32):
+            raise Refused(12)
+
+
+def intervals(words):
+    out, run = [], []
+    for w in words:
+        run.append(w or 65536)
+        if w:
+            out.append(sum(run))
+            run = []
+    return out, sum(run)
+
+
+def listing(b):
+    try:
+        if len(b) > 65536:
+            raise Refused(1)
+        i = Image(b)
+        i.judge()
+    except Refused as r:
+        return ['refused %d at %d' % (r.number, r.position)]
+    lines = ['ok %d tracks %d turns %d sum %d' % (len(b), len(i.tracks), i.turns, i.stored)]
+    for t, turns in i.tracks.items():
+        for k, (duration, count, place) in enumerate(turns):
+            closed, open_time = intervals(struct.unpack_from('>%dH' % count, i.b, place))
+            lines.append('track %d turn %d ticks %d words %d intervals %d open %d' % (t, k, duration, count, len(closed), open_time))
+    return lines
+
+
+def exact(duration, rpm):
+    return duration and Fraction(2_400_000_000, duration) == rpm
+
+
+def questions(b):
+    """What crates/scp_test prints of the header, the footer, a track, its revolutions and its speeds."""
+    try:
+        i = Image(b)
+    except Refused as r:
+        return ['asked: refused %d at %d' % (r.number, r.position)]
+    lines = ['header %d %d %d %d %d %d %d %d %d' % (i.version, i.disk, i.turns, i.start, i.end, i.flags, i.width, i.heads, i.stored)]
+    if i.footer is None:
+        lines.append('footer none')
+    else:
+        offsets, created, modified, versions = i.footer
+        times = ['%s%016x' % ('-' if n < 0 else '+', n & (1 << 64) - 1) for n in (created, modified)]
+        lines.append('footer ' + ' '.join(map(str, [*offsets, *times, *versions])))
+    for t in 0, 1, 167, 168, 4294967295:
+        if t not in i.tracks:
+            lines.append('track %d: refused 13 at 0' % t)
+            continue
+        lines.append('track %d: %d %d %d %d' % (t, t // 2, t % 2, i.entries[t], i.turns))
+        durations = [d for d, _, _ in i.tracks[t] if d]
+        lines.append('speeds ' + ('none' if not durations else
+                     'slowest 300 %d fastest 300 %d' % (exact(max(durations), 300), exact(min(durations), 300))))
+        for k in 0, 4, 5, 4294967295:
+            if k >= i.turns:
+                lines.append('turn %d: refused 14 at 0' % k)
+                continue
+            duration, count, place = i.tracks[t][k]
+            speed = 'none' if not duration else '300 %d' % exact(duration, 300)
+            closed, open_time = intervals(struct.unpack_from('>%dH' % count, i.b, place))
+            places = 'refused 15 at 0' if len(closed) > 2 else 'filled %d open %d' % (len(closed), open_time)
+            lines.append('turn %d: %d %d %d flux %d speed %s intervals %s' % (k, duration, count, place, 2 * count, speed, places))
+    return lines
+
+
+def main(what):
+    made = {'%s.scp' % name: bytes(b) for name, b in images().items()}
+    data, stdin = ROOT / 'crates/scp_test/data', ROOT / 'crates/scp_list/stdin'
+    if what == 'images':
+        data.mkdir(parents=True, exist_ok=True)
+        for name, b in made.items():
+            (data / name).write_bytes(b)
+        (ROOT / 'crates/scp_test/args').write_text(''.join(name + '\n' for name in made))
+        stdin.write_bytes(bytes(A))
+    elif what == 'same':
+        stored = {p.name: p.read_bytes() for p in data.glob('*.scp')}
+        sys.exit(stored != made or stdin.read_bytes() != bytes(A))
+    elif what == 'list':
+        print('\n'.join(listing(A)))
+    else:
+        for name, b in made.items():
+            print('\n'.join(['== ' + name, *listing(b), *questions(b)]))
+
+
+if __name__ == '__main__':
+    assert len(A) == 712 and struct.unpack_from('<I', A, 12)[0] == 980
+    main(sys.argv[1])
