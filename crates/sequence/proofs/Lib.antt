@@ -1,0 +1,5 @@
+pub mod Keeping
+pub mod Checksums
+pub mod EverySequence
+pub mod RowLaws
+pub mod NoNan
