@@ -427,7 +427,13 @@ fn patch_summed(image: &mut [u8], e: usize, k: usize, duration: u32, words: &[u8
 }
 
 // Rewrites one revolution: its duration, its words as big-endian bytes, and their count. A refused rewrite changes nothing.
-fn rewrite(image: &mut [u8], track: u32, revolution: u32, duration: u32, words: &[u8]) -> Rewritten
+pub fn rewrite(
+    image: &mut [u8],
+    track: u32,
+    revolution: u32,
+    duration: u32,
+    words: &[u8],
+) -> Rewritten
     ensures { λ r. ⌜ ofRewritten r ≡ rewriteAnswer (now (image .entry)) track revolution (now (words .entry)) ⌝ }
     ensures { λ _. ⌜ now (image .exit) ≡ afterRewrite (now (image .entry)) track revolution duration (now (words .entry)) ⌝ }
 {

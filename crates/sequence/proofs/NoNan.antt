@@ -5,7 +5,7 @@ use mathlib.Core.Bool.{Bool, true, false, not, cond}
 use lib.Dec.{T, eqb, ltb}
 use lib.IntN.{ℤ, pos}
 use lib.Ieee.{Float, nan, inf, fin, Format, binary64, prec, emax, low, up, down, unlike, odd, units, round, div, ofInt, isNan}
-use mathlib.Core.List.{List, [], _∷_}
+use mathlib.Core.List.{List}
 use Rattle.scp_header.specs.Refusals.{passes}
 use Rattle.scp_header.specs.Header.{revolutions, trackEntry}
 use Rattle.scp_open.specs.Tracks.{durationAt}

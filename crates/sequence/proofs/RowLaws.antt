@@ -1,12 +1,13 @@
 -- Every answer's row has 16 numbers, and every row of a call is one that demand 3 speaks of.
-use Prim.Native.Nat.{ℕ, zero, suc, _+_, _*_, _/_, _%_, _<_, _≤_}
-use mathlib.Core.Path.{_≡_, refl, ap, ap₂}
+use Prim.Native.Nat.{ℕ, zero, suc, _+_, _*_, _%_, _<_, _≤_}
+use mathlib.Core.Path.{_≡_, refl, sym, ap, ap₂, _∙_}
 use mathlib.Core.List.{List, [], _∷_, _++_, map}
 use mathlib.Core.Bool.{Bool, true, false, cond}
 use native.Mathlib.Omega.{arith}
 use lib.ListN.{length, take, drop, getD, replicate, length-append}
 use lib.Seq.{length-take-le}
 use lib.Dec.{eqb}
+use borrow.Author.Tests.{eq-eqb, ne-eqb}
 use Rattle.octets.specs.Numbers.{byteAt, Octets, unsigned64}
 use Rattle.octets.specs.Sums.{byteSum}
 use lib.Ieee.{binary64, toBits}
@@ -15,7 +16,7 @@ use Rattle.scp.specs.Answers.{Answer, refused, none, numbers, footer, speeds, b
 use Rattle.sequence.specs.Book as book
 use Rattle.sequence.specs.Book.{Call, after, answers}
 use Rattle.sequence.specs.Claim.{Fits, AllFit}
-use Rattle.sequence.specs.Rows.{questionOf, callOf, field, callAt, callsFrom, callsOf, padded, rowOf, rowsOf}
+use Rattle.sequence.specs.Rows.{questionOf, callOf, capped, part, field, callAt, callsFrom, callsOf, padded, rowOf, rowsOf}
 
 -- ---- how long rows are
 
@@ -142,3 +143,28 @@ question-stays b kind t k =
     (stays-by (eqb kind 4) b (book.revolution t k) _ refl
     (stays-by (eqb kind 5) b (book.flux t k) _ refl
     (stays-by (eqb kind 6) b (book.speed t k) _ refl (stays-by (eqb kind 7) b (book.trackSpeed t) book.validate refl refl))))))
+
+-- ---- what a row's kind says of its call
+
+kind-is : (calls : List ℕ) (i : ℕ) → field calls i 0 ≡ getD calls (6 * i) 0
+kind-is calls i = let e : 6 * i + 0 ≡ 6 * i = omega arith in ap (λ (j : ℕ). getD calls j 0) e
+
+pub call-rewrite : (calls words : List ℕ) (i : ℕ) → getD calls (6 * i) 0 ≡ 8
+    → callAt calls words i
+    ≡ book.rewrite (capped (field calls i 1)) (capped (field calls i 2)) (field calls i 3 % 4_294_967_296)
+    (part words (field calls i 4) (field calls i 5))
+unfolding callAt callOf
+call-rewrite calls words i h = simp (eq-eqb (field calls i 0) 8 (kind-is calls i ∙ h))
+
+pub call-question : (calls words : List ℕ) (i : ℕ) → (getD calls (6 * i) 0 ≡ 8 → ⊥)
+    → callAt calls words i ≡ questionOf (getD calls (6 * i) 0) (capped (field calls i 1)) (capped (field calls i 2))
+unfolding callAt callOf
+call-question calls words i h =
+    let e = kind-is calls i in
+    let q : callAt calls words i ≡ questionOf (field calls i 0) (capped (field calls i 1)) (capped (field calls i 2)) =
+    simp (ne-eqb (field calls i 0) 8 (λ z. h (sym e ∙ z))) in
+    q ∙ ap (λ (x : ℕ). questionOf x (capped (field calls i 1)) (capped (field calls i 2))) e
+
+-- a rewrite whose arguments are equal
+pub rewrite-same : (d : ℕ) {t t′ k k′ : ℕ} {ws ws′ : List ℕ} → t ≡ t′ → k ≡ k′ → ws ≡ ws′ → book.rewrite t k d ws ≡ book.rewrite t′ k′ d ws′
+rewrite-same d et ek ew = cc

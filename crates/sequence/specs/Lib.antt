@@ -1,3 +1,4 @@
 pub mod Book
 pub mod Claim
 pub mod Rows
+pub mod Replaying

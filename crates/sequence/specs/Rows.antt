@@ -98,3 +98,8 @@ Real none = Unit {0}
 Real (numbers vs) = Unit {0}
 Real (footer offsets times versions) = Unit {0}
 Real (bytes b) = Unit {0}
+
+-- The answers after the calls on the bytes b: their rows, and behind them what stood there.
+abbrev pub answersAfter : List ℕ → List ℕ → List ℕ → List ℕ → List ℕ
+answersAfter b calls words places =
+    rowsOf (book.answers b (callsOf calls words)) ++ drop (length (rowsOf (book.answers b (callsOf calls words)))) places

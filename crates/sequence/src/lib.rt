@@ -1,13 +1,14 @@
 // A sequence of calls on one SuperCard Pro image: the row of 16 numbers that each question answers.
 ghost use mathlib.Core.Path.{_≡_};
-ghost use Prim.Native.Nat.{_+_, _≤_};
+ghost use Prim.Native.Nat.{_+_, _*_, _/_, _≤_};
 ghost use lib.ListN.{length};
 ghost use lib.Seq.{sets};
 ghost use Rattle.octets.specs.Numbers.{unsigned64};
 ghost use Rattle.scp.specs.Answers.{refused, none, bytes, ofFooterData, ofSpeedOnly};
-ghost use Rattle.sequence.specs.Book.{answer};
+ghost use Rattle.sequence.specs.Book.{answer, after, finalBytes};
 ghost use Rattle.sequence.specs.Book as book;
-ghost use Rattle.sequence.specs.Rows.{questionOf, capped, part, rowOf, Real};
+ghost use Rattle.sequence.specs.Rows.{callSize, answerSize, questionOf, capped, part, callAt, callsOf, rowOf, Real, answersAfter};
+ghost use Rattle.sequence.specs.Replaying.{ofReplayed, replayAnswer, Replays};
 use flux::Refusal;
 use scp::FooterAnswer;
 use scp::FooterData;
@@ -18,6 +19,16 @@ use scp::TrackAnswer;
 use scp::TrackSpeedAnswer;
 use scp::Validated;
 use scp_open::Speed;
+use scp_rewrite::Rewritten;
+
+// The refusal of too few places (01), by number.
+const PLACES_REFUSED: u32 = 15;
+
+// Whether the calls were made.
+pub enum Replayed {
+    Done,
+    Refused(Refusal),
+}
 
 // The kinds of calls; any other is a validation.
 const HEADER: u64 = 1;
@@ -33,6 +44,8 @@ const FLUX: u64 = 5;
 const SPEED: u64 = 6;
 
 const TRACK_SPEED: u64 = 7;
+
+const REWRITE: u64 = 8;
 
 // ---- rows
 
@@ -362,4 +375,70 @@ fn put_row(answers: &mut [u64], at: usize, row: &[u64])
         answers[at + j] = row[j];
         j += 1;
     }
+}
+
+// Rewrites a revolution, and hands back the row of the answer.
+fn rewrite_row(
+    image: &mut [u8],
+    track: u32,
+    revolution: u32,
+    duration: u32,
+    words: &[u8],
+) -> [u64; 16]
+    ensures { λ r. ⌜ r ≡ rowOf (answer (now (image .entry)) (book.rewrite track revolution duration (now (words .entry)))) ⌝ }
+    ensures { λ _. ⌜ now (image .exit) ≡ after (now (image .entry)) (book.rewrite track revolution duration (now (words .entry))) ⌝ }
+{
+    let found = scp_rewrite::rewrite(image, track, revolution, duration, words);
+    match found {
+        Rewritten::Done => plain_row(),
+        Rewritten::Refused(r) => refused_row(r),
+    }
+}
+
+// Makes the call of row i, and hands back the row of its answer.
+fn call_row(image: &mut [u8], calls: &[u64], words: &[u8], i: usize) -> [u64; 16]
+    requires { ⌜ 6 * i + 6 ≤ length (now calls) ⌝ }
+    ensures { λ r. ⌜ r ≡ rowOf (answer (now (image .entry)) (callAt (now (calls .entry)) (now (words .entry)) i)) ⌝ }
+    ensures { λ _. ⌜ now (image .exit) ≡ after (now (image .entry)) (callAt (now (calls .entry)) (now (words .entry)) i) ⌝ }
+{
+    let at = 6 * i;
+    let kind = calls[at];
+    let track = cap(calls[at + 1]);
+    let revolution = cap(calls[at + 2]);
+    if kind == REWRITE {
+        let duration = (calls[at + 3] % 4_294_967_296) as u32;
+        let part = part_of(words, calls[at + 4] as usize, calls[at + 5] as usize);
+        return rewrite_row(image, track, revolution, duration, part);
+    }
+    question_row(image, kind, track, revolution)
+}
+
+// Makes all calls, and stores the rows of their answers from the start of the answers on.
+fn run_calls(image: &mut [u8], calls: &[u64], words: &[u8], answers: &mut [u64])
+    requires { ⌜ answerSize * (length (now calls) / callSize) ≤ length (now answers) ⌝ }
+    ensures { λ _. ⌜ now (image .exit) ≡ finalBytes (now (image .entry)) (callsOf (now (calls .entry)) (now (words .entry))) ⌝ }
+    ensures { λ _. ⌜ now (answers .exit) ≡ answersAfter (now (image .entry)) (now (calls .entry)) (now (words .entry)) (now (answers .entry)) ⌝ }
+{
+    let n = calls.len() / 6;
+    let mut i = 0;
+    while i < n {
+        let row = call_row(image, calls, words, i);
+        put_row(answers, 16 * i, &row);
+        i += 1;
+    }
+}
+
+// Runs the calls on the image, in order, and puts the row of each answer to the answers; demand 3 holds of the whole sequence.
+pub fn replay(image: &mut [u8], calls: &[u64], words: &[u8], answers: &mut [u64]) -> Replayed
+    ensures { λ r. ⌜ ofReplayed r ≡ replayAnswer (now (calls .entry)) (length (now (answers .entry))) ⌝ }
+    ensures { λ _. ⌜ Replays (now (image .entry)) (now (calls .entry)) (now (words .entry)) (now (answers .entry)) (now (image .exit)) (now (answers .exit)) ⌝ }
+{
+    if answers.len() / 16 < calls.len() / 6 {
+        return Replayed::Refused(Refusal {
+            number: PLACES_REFUSED,
+            position: 0,
+        });
+    }
+    run_calls(image, calls, words, answers);
+    Replayed::Done
 }

@@ -1,5 +1,5 @@
 -- A speed that is a number has a bit pattern.
-use mathlib.Core.Path.{sym, ap, subst, _∙_}
+use mathlib.Core.Path.{sym, ap, subst}
 use Rattle.scp.specs.Answers.{ofSpeedOnly}
 use Rattle.sequence.specs.Rows.{rowOf, Real}
 use borrow.Author.Needs.{needs}
