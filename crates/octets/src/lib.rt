@@ -137,7 +137,7 @@ pub fn le64(bytes: &[u8], at: usize) -> i64
 // ---- putting
 
 // The two's complement of a signed number, as a number of 64 bits.
-fn unsigned(v: i64) -> u64
+pub fn unsigned(v: i64) -> u64
     ensures { λ r. ⌜ r ≡ unsigned64 v ⌝ }
 {
     if v < 0 {

@@ -3,7 +3,6 @@ ghost use mathlib.Core.Path.{_≡_};
 ghost use Prim.Native.Nat.{_+_, _*_, _/_, _≤_};
 ghost use lib.ListN.{length};
 ghost use lib.Seq.{sets};
-ghost use Rattle.octets.specs.Numbers.{unsigned64};
 ghost use Rattle.scp.specs.Answers.{refused, none, bytes, ofFooterData, ofSpeedOnly};
 ghost use Rattle.sequence.specs.Book.{answer, after, finalBytes};
 ghost use Rattle.sequence.specs.Book as book;
@@ -119,22 +118,12 @@ fn header_row(image: &[u8]) -> [u64; 16]
     }
 }
 
-// The two's complement of a signed number, as a number of 64 bits.
-fn unsigned(v: i64) -> u64
-    ensures { λ r. ⌜ r ≡ unsigned64 v ⌝ }
-{
-    if v < 0 {
-        return 18_446_744_073_709_551_615 - (!v as u64);
-    }
-    v as u64
-}
-
 // The row of a footer's numbers.
 fn footer_numbers(f: FooterData) -> [u64; 16]
     ensures { λ r. ⌜ r ≡ rowOf (ofFooterData f) ⌝ }
 {
-    let created = unsigned(f.created);
-    let modified = unsigned(f.modified);
+    let created = octets::unsigned(f.created);
+    let modified = octets::unsigned(f.modified);
     [
         0,
         0,
