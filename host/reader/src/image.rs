@@ -1,0 +1,306 @@
+//! Parsing of a whole image into owned structures, with the refusals 1 to 11, 13 and 14.
+
+use std::collections::BTreeMap;
+
+use crate::{Footer, Header, Refusal, Revolution};
+
+/// The rules, refusal 1: the greatest length; refusal 17 has the same bound.
+pub(crate) const GREATEST: u64 = 268_435_456;
+
+/// The rules, Layout: header and table take the first 688 bytes; nothing else lies there.
+pub(crate) const FIRST: u64 = 688;
+
+/// The rules, Layout: the footer is the last 48 bytes.
+pub(crate) const FOOTER: u64 = 48;
+
+/// The rules, Layout: the table has 168 entries.
+const TRACKS: u32 = 168;
+
+/// An image that none of 1 to 11 refuses, taken apart.
+pub(crate) struct Image {
+    pub(crate) header: Header,
+    pub(crate) footer: Option<Footer>,
+    pub(crate) strings: Vec<Text>,
+    pub(crate) tracks: BTreeMap<u32, TrackData>,
+}
+
+/// The rules, Layout: a present string, its place in the file and its bytes.
+pub(crate) struct Text {
+    pub(crate) place: u64,
+    pub(crate) bytes: Vec<u8>,
+}
+
+/// The rules, Layout: a track data header, its place in the file and its revolutions.
+pub(crate) struct TrackData {
+    pub(crate) place: u64,
+    pub(crate) revolutions: Vec<Revolution>,
+}
+
+impl Image {
+    /// The rules, Numbers of refusal: 1 to 8, the lowest first, then the tracks from index 0 up.
+    pub(crate) fn parse(image: &[u8]) -> Result<Image, Refusal> {
+        let header = parse_header(image)?;
+        let footer = parse_footer(image, &header)?;
+        let body = body(image, &header);
+        let strings = match &footer {
+            Some(footer) => parse_strings(body, footer)?,
+            None => Vec::new(),
+        };
+        let tracks = parse_tracks(image, body, &header)?;
+        Ok(Image {
+            header,
+            footer,
+            strings,
+            tracks,
+        })
+    }
+
+    /// The rules, rulings: "read/write" is FLAGS bit 4.
+    pub(crate) fn read_write(&self) -> bool {
+        flag(&self.header, 4)
+    }
+
+    /// The rules, refusal 13: the track asked for is above 167 or has entry 0.
+    pub(crate) fn track(&self, track: u32) -> Result<&TrackData, Refusal> {
+        self.tracks.get(&track).ok_or(refuse(13))
+    }
+}
+
+impl TrackData {
+    /// The rules, refusal 14: the revolution asked for is not below R.
+    pub(crate) fn revolution(&self, revolution: u32) -> Result<Revolution, Refusal> {
+        let index = usize::try_from(revolution).map_err(|_| refuse(14))?;
+        self.revolutions.get(index).copied().ok_or(refuse(14))
+    }
+}
+
+/// The rules, Numbers of refusal: a refusal at position 0.
+pub(crate) fn refuse(number: u32) -> Refusal {
+    refuse_at(number, 0)
+}
+
+/// The rules, Numbers of refusal: a refusal at a string number, track index or index of a time.
+pub(crate) fn refuse_at(number: u32, position: u64) -> Refusal {
+    Refusal { number, position }
+}
+
+/// The bytes of a stretch given by start and length, if all of them are there.
+pub(crate) fn stretch(bytes: &[u8], start: u64, length: u64) -> Option<&[u8]> {
+    let end = usize::try_from(start.checked_add(length)?).ok()?;
+    bytes.get(usize::try_from(start).ok()?..end)
+}
+
+/// The rules, refusal 12: the sum of all bytes from 0x10, not yet reduced.
+pub(crate) fn true_sum(image: &[u8]) -> u64 {
+    image.iter().skip(0x10).map(|&byte| u64::from(byte)).sum()
+}
+
+/// The rules, Layout: a bit of FLAGS.
+fn flag(header: &Header, bit: u32) -> bool {
+    (header.flags >> bit) & 1 == 1
+}
+
+/// The rules, Layout: what lies below E, which is the length, less 48 if FLAGS bit 5 is set.
+fn body<'a>(image: &'a [u8], header: &Header) -> &'a [u8] {
+    let length = image.len() as u64;
+    let end = if flag(header, 5) {
+        length.saturating_sub(FOOTER)
+    } else {
+        length
+    };
+    stretch(image, 0, end).unwrap_or_default()
+}
+
+/// A byte.
+fn byte(bytes: &[u8], place: u64) -> Option<u8> {
+    stretch(bytes, place, 1)?.first().copied()
+}
+
+/// The rules, Layout: a little-endian number of 16 bits.
+fn number16(bytes: &[u8], place: u64) -> Option<u16> {
+    let taken = stretch(bytes, place, 2)?.try_into().ok()?;
+    Some(u16::from_le_bytes(taken))
+}
+
+/// The rules, Layout: a little-endian number of 32 bits.
+fn number32(bytes: &[u8], place: u64) -> Option<u32> {
+    let taken = stretch(bytes, place, 4)?.try_into().ok()?;
+    Some(u32::from_le_bytes(taken))
+}
+
+/// The rules, Layout: a signed little-endian number of 64 bits.
+fn signed64(bytes: &[u8], place: u64) -> Option<i64> {
+    let taken = stretch(bytes, place, 8)?.try_into().ok()?;
+    Some(i64::from_le_bytes(taken))
+}
+
+/// The rules, refusals 1 to 6, in this order.
+fn parse_header(image: &[u8]) -> Result<Header, Refusal> {
+    let length = image.len() as u64;
+    if !(FIRST..=GREATEST).contains(&length) {
+        return Err(refuse(1));
+    }
+    if !image.starts_with(b"SCP") {
+        return Err(refuse(2));
+    }
+    let header = read_header(image).ok_or(refuse(1))?;
+    if header.width != 0 && header.width != 16 {
+        return Err(refuse(3));
+    }
+    let single = header.revolutions == 1;
+    if !(1..=5).contains(&header.revolutions) || (flag(&header, 4) && !single) {
+        return Err(refuse(4));
+    }
+    if header.start > header.end || u32::from(header.end) >= TRACKS {
+        return Err(refuse(5));
+    }
+    if header.heads > 2 {
+        return Err(refuse(6));
+    }
+    Ok(header)
+}
+
+/// The rules, Layout: the fields of the header at their offsets.
+fn read_header(image: &[u8]) -> Option<Header> {
+    Some(Header {
+        version: byte(image, 0x03)?,
+        disk: byte(image, 0x04)?,
+        revolutions: byte(image, 0x05)?,
+        start: byte(image, 0x06)?,
+        end: byte(image, 0x07)?,
+        flags: byte(image, 0x08)?,
+        width: byte(image, 0x09)?,
+        heads: byte(image, 0x0A)?,
+        checksum: number32(image, 0x0C)?,
+    })
+}
+
+/// The rules, refusal 7: flagged, and length below 736, no "FPCS", or byte 0x2B below 0x16.
+fn parse_footer(image: &[u8], header: &Header) -> Result<Option<Footer>, Refusal> {
+    if !flag(header, 5) {
+        return Ok(None);
+    }
+    let length = image.len() as u64;
+    if length < FIRST + FOOTER {
+        return Err(refuse(7));
+    }
+    let last = stretch(image, length - FOOTER, FOOTER).ok_or(refuse(7))?;
+    if !last.ends_with(b"FPCS") {
+        return Err(refuse(7));
+    }
+    let footer = read_footer(last).ok_or(refuse(7))?;
+    let [_, _, _, format] = footer.versions;
+    if format < 0x16 {
+        return Err(refuse(7));
+    }
+    Ok(Some(footer))
+}
+
+/// The rules, Layout: the fields of the footer at their offsets.
+fn read_footer(last: &[u8]) -> Option<Footer> {
+    Some(Footer {
+        offsets: [
+            number32(last, 0x00)?,
+            number32(last, 0x04)?,
+            number32(last, 0x08)?,
+            number32(last, 0x0C)?,
+            number32(last, 0x10)?,
+            number32(last, 0x14)?,
+        ],
+        created: signed64(last, 0x18)?,
+        modified: signed64(last, 0x20)?,
+        versions: stretch(last, 0x28, 4)?.try_into().ok()?,
+    })
+}
+
+/// The rules, refusal 8: the present strings; the first faulty one is the position.
+fn parse_strings(body: &[u8], footer: &Footer) -> Result<Vec<Text>, Refusal> {
+    let mut strings = Vec::new();
+    for (index, &offset) in (0..).zip(&footer.offsets) {
+        if offset != 0 {
+            strings.push(parse_string(body, u64::from(offset)).ok_or(refuse_at(8, index))?);
+        }
+    }
+    Ok(strings)
+}
+
+/// The rules, Layout: a 16-bit length, that many bytes of which none is zero, and a zero byte.
+fn parse_string(body: &[u8], place: u64) -> Option<Text> {
+    let length = u64::from(number16(body, place)?);
+    let bytes = stretch(body, place + 2, length)?;
+    let closing = byte(body, place + 2 + length)?;
+    if place < FIRST || bytes.contains(&0) || closing != 0 {
+        return None;
+    }
+    Some(Text {
+        place,
+        bytes: bytes.to_vec(),
+    })
+}
+
+/// The rules, Numbers of refusal: tracks from index 0 up, each with 9, then 10, then 11.
+fn parse_tracks(
+    image: &[u8],
+    body: &[u8],
+    header: &Header,
+) -> Result<BTreeMap<u32, TrackData>, Refusal> {
+    let mut tracks = BTreeMap::new();
+    for index in 0..TRACKS {
+        let entry = number32(image, 0x10 + 4 * u64::from(index)).ok_or(refuse(1))?;
+        if entry == 0 {
+            continue;
+        }
+        if !may_hold(header, index) {
+            return Err(refuse_at(9, u64::from(index)));
+        }
+        let data = parse_track(body, header, index, u64::from(entry));
+        let data = data.ok_or(refuse_at(10, u64::from(index)))?;
+        if !data.revolutions.iter().all(|one| flux_lies(body, one)) {
+            return Err(refuse_at(11, u64::from(index)));
+        }
+        tracks.insert(index, data);
+    }
+    Ok(tracks)
+}
+
+/// The rules, refusal 9: within start to end, and on a side that is held.
+fn may_hold(header: &Header, index: u32) -> bool {
+    let spanned = u32::from(header.start) <= index && index <= u32::from(header.end);
+    let head = index % 2;
+    let held = match header.heads {
+        1 => head == 0,
+        2 => head == 1,
+        _ => true,
+    };
+    spanned && held
+}
+
+/// The rules, refusal 10: the track data header lies well, has "TRK" and its own number.
+fn parse_track(body: &[u8], header: &Header, index: u32, place: u64) -> Option<TrackData> {
+    let length = 4 + 12 * u64::from(header.revolutions);
+    let taken = stretch(body, place, length)?;
+    let number = u32::from(byte(taken, 3)?);
+    if place < FIRST || !taken.starts_with(b"TRK") || number != index {
+        return None;
+    }
+    let mut revolutions = Vec::new();
+    for revolution in 0..u64::from(header.revolutions) {
+        revolutions.push(read_revolution(taken, place, 4 + 12 * revolution)?);
+    }
+    Some(TrackData { place, revolutions })
+}
+
+/// The rules, Layout: a duration, a count of words and the distance of the flux from the "T".
+fn read_revolution(taken: &[u8], place: u64, at: u64) -> Option<Revolution> {
+    let distance = u64::from(number32(taken, at + 8)?);
+    Some(Revolution {
+        duration: number32(taken, at)?,
+        words: number32(taken, at + 4)?,
+        place: place + distance,
+    })
+}
+
+/// The rules, refusal 11: 2 x count bytes end at or below E; with count 0 the place is not above E.
+fn flux_lies(body: &[u8], revolution: &Revolution) -> bool {
+    stretch(body, revolution.place, 2 * u64::from(revolution.words)).is_some()
+}

@@ -1,0 +1,146 @@
+//! A sequence of calls on one image, each given as a row of numbers and answered by one.
+
+use crate::image::refuse;
+use crate::{Footer, Header, Refusal, Revolution, Track};
+
+/// A call: kind, track, revolution, duration, and start and length of its words.
+const CALL: usize = 6;
+
+/// An answer: refusal number, position, the values, then zeros.
+const ANSWER: usize = 16;
+
+/// The rules, Rewriting: each call gets the image as the last one left it; 15 if rows do not fit.
+pub fn replay(
+    image: &mut [u8],
+    calls: &[u64],
+    words: &[u8],
+    answers: &mut [u64],
+) -> Result<(), Refusal> {
+    if answers.len() / ANSWER < calls.len() / CALL {
+        return Err(refuse(15));
+    }
+    let rows = calls.chunks_exact(CALL);
+    for (call, answer) in rows.zip(answers.chunks_exact_mut(ANSWER)) {
+        if let &[kind, track, revolution, duration, start, length] = call {
+            let part = cut(words, start, length);
+            let named = (limit(track), limit(revolution));
+            let found = answer_to(image, kind, named, duration as u32, part);
+            fill(answer, found);
+        }
+    }
+    Ok(())
+}
+
+/// A track or revolution above 4,294,967,295 counts as that.
+fn limit(number: u64) -> u32 {
+    u32::try_from(number).unwrap_or(u32::MAX)
+}
+
+/// The part of the words that a call names; what runs past their end is cut.
+fn cut(words: &[u8], start: u64, length: u64) -> &[u8] {
+    let whole = words.len() as u128;
+    let end = (u128::from(start) + u128::from(length)).min(whole);
+    let start = u128::from(start).min(whole);
+    words.get(start as usize..end as usize).unwrap_or_default()
+}
+
+/// The values that answer a call, or its refusal; a kind that is not known is a validation.
+fn answer_to(
+    image: &mut [u8],
+    kind: u64,
+    (track, revolution): (u32, u32),
+    duration: u32,
+    words: &[u8],
+) -> Result<Vec<u64>, Refusal> {
+    match kind {
+        1 => crate::header(image).map(header_values),
+        2 => crate::footer(image).map(footer_values),
+        3 => crate::track(image, track).map(track_values),
+        4 => crate::revolution(image, track, revolution).map(revolution_values),
+        5 => crate::flux(image, track, revolution).map(flux_values),
+        6 => crate::speed(image, track, revolution).map(speed_values),
+        7 => crate::track_speed(image, track).map(track_speed_values),
+        8 => crate::rewrite(image, track, revolution, duration, words).map(|()| Vec::new()),
+        _ => crate::validate(image).map(|()| Vec::new()),
+    }
+}
+
+/// Sets a row: 0, 0 and the values, or the refusal's number and position; then zeros.
+fn fill(answer: &mut [u64], found: Result<Vec<u64>, Refusal>) {
+    let row = match found {
+        Ok(values) => [vec![0, 0], values].concat(),
+        Err(refusal) => vec![u64::from(refusal.number), refusal.position],
+    };
+    let padded = row.into_iter().chain(std::iter::repeat(0));
+    for (place, value) in answer.iter_mut().zip(padded) {
+        *place = value;
+    }
+}
+
+/// Version, disk type, revolutions, start, end, flags, width, heads, checksum.
+fn header_values(header: Header) -> Vec<u64> {
+    vec![
+        u64::from(header.version),
+        u64::from(header.disk),
+        u64::from(header.revolutions),
+        u64::from(header.start),
+        u64::from(header.end),
+        u64::from(header.flags),
+        u64::from(header.width),
+        u64::from(header.heads),
+        u64::from(header.checksum),
+    ]
+}
+
+/// 1, six offsets, created and modified in two's complement, four version bytes; or nothing.
+fn footer_values(footer: Option<Footer>) -> Vec<u64> {
+    let Some(footer) = footer else {
+        return Vec::new();
+    };
+    let mut values = vec![1];
+    values.extend(footer.offsets.map(u64::from));
+    values.extend([footer.created as u64, footer.modified as u64]);
+    values.extend(footer.versions.map(u64::from));
+    values
+}
+
+/// Cylinder, head, file offset of the track data header, revolutions.
+fn track_values(track: Track) -> Vec<u64> {
+    vec![
+        u64::from(track.cylinder),
+        u64::from(track.head),
+        track.place,
+        u64::from(track.revolutions),
+    ]
+}
+
+/// Duration, words, file offset of the flux.
+fn revolution_values(revolution: Revolution) -> Vec<u64> {
+    vec![
+        u64::from(revolution.duration),
+        u64::from(revolution.words),
+        revolution.place,
+    ]
+}
+
+/// How many bytes, and their sum modulo 2^32.
+fn flux_values(flux: Vec<u8>) -> Vec<u64> {
+    let sum: u64 = flux.iter().map(|&byte| u64::from(byte)).sum();
+    vec![flux.len() as u64, sum % (1 << 32)]
+}
+
+/// 1 and the bit pattern of the speed; or nothing.
+fn speed_values(speed: Option<f64>) -> Vec<u64> {
+    match speed {
+        Some(speed) => vec![1, speed.to_bits()],
+        None => Vec::new(),
+    }
+}
+
+/// 1 and the bit patterns of the slowest and the fastest speed; or nothing.
+fn track_speed_values(speeds: Option<(f64, f64)>) -> Vec<u64> {
+    match speeds {
+        Some((slowest, fastest)) => vec![1, slowest.to_bits(), fastest.to_bits()],
+        None => Vec::new(),
+    }
+}
