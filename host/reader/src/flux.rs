@@ -28,19 +28,11 @@ pub fn step(flux: &[u8], word: u64) -> Result<Step, Refusal> {
     while let Some(found) = word_at(flux, at) {
         at += 1;
         if found != 0 {
-            return Ok(Step {
-                interval: Some(ZERO_WORD * zeros + u64::from(found)),
-                open: 0,
-                next: at,
-            });
+            return Ok(Step { interval: Some(ZERO_WORD * zeros + u64::from(found)), open: 0, next: at });
         }
         zeros += 1;
     }
-    Ok(Step {
-        interval: None,
-        open: ZERO_WORD * zeros,
-        next: word,
-    })
+    Ok(Step { interval: None, open: ZERO_WORD * zeros, next: word })
 }
 
 /// The rules, Flux and time: all intervals and the open time; 17, then 15 if they do not fit.
@@ -49,9 +41,7 @@ pub fn intervals(flux: &[u8], places: usize) -> Result<(Vec<u64>, u64), Refusal>
     let mut found = Vec::new();
     let mut pending = 0;
     for pair in flux.chunks_exact(2) {
-        let word = pair
-            .iter()
-            .fold(0, |high, &low| high * 256 + u64::from(low));
+        let word = pair.iter().fold(0, |high, &low| high * 256 + u64::from(low));
         if word == 0 {
             pending += ZERO_WORD;
         } else {

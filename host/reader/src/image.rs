@@ -47,12 +47,7 @@ impl Image {
             None => Vec::new(),
         };
         let tracks = parse_tracks(image, body, &header)?;
-        Ok(Image {
-            header,
-            footer,
-            strings,
-            tracks,
-        })
+        Ok(Image { header, footer, strings, tracks })
     }
 
     /// The rules, rulings: "read/write" is FLAGS bit 4.
@@ -103,11 +98,7 @@ fn flag(header: &Header, bit: u32) -> bool {
 /// The rules, Layout: what lies below E, which is the length, less 48 if FLAGS bit 5 is set.
 fn body<'a>(image: &'a [u8], header: &Header) -> &'a [u8] {
     let length = image.len() as u64;
-    let end = if flag(header, 5) {
-        length.saturating_sub(FOOTER)
-    } else {
-        length
-    };
+    let end = if flag(header, 5) { length.saturating_sub(FOOTER) } else { length };
     stretch(image, 0, end).unwrap_or_default()
 }
 
@@ -232,18 +223,11 @@ fn parse_string(body: &[u8], place: u64) -> Option<Text> {
     if place < FIRST || bytes.contains(&0) || closing != 0 {
         return None;
     }
-    Some(Text {
-        place,
-        bytes: bytes.to_vec(),
-    })
+    Some(Text { place, bytes: bytes.to_vec() })
 }
 
 /// The rules, Numbers of refusal: tracks from index 0 up, each with 9, then 10, then 11.
-fn parse_tracks(
-    image: &[u8],
-    body: &[u8],
-    header: &Header,
-) -> Result<BTreeMap<u32, TrackData>, Refusal> {
+fn parse_tracks(image: &[u8], body: &[u8], header: &Header) -> Result<BTreeMap<u32, TrackData>, Refusal> {
     let mut tracks = BTreeMap::new();
     for index in 0..TRACKS {
         let entry = number32(image, 0x10 + 4 * u64::from(index)).ok_or(refuse(1))?;
@@ -293,11 +277,7 @@ fn parse_track(body: &[u8], header: &Header, index: u32, place: u64) -> Option<T
 /// The rules, Layout: a duration, a count of words and the distance of the flux from the "T".
 fn read_revolution(taken: &[u8], place: u64, at: u64) -> Option<Revolution> {
     let distance = u64::from(number32(taken, at + 8)?);
-    Some(Revolution {
-        duration: number32(taken, at)?,
-        words: number32(taken, at + 4)?,
-        place: place + distance,
-    })
+    Some(Revolution { duration: number32(taken, at)?, words: number32(taken, at + 4)?, place: place + distance })
 }
 
 /// The rules, refusal 11: 2 x count bytes end at or below E; with count 0 the place is not above E.

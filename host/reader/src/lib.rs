@@ -75,11 +75,7 @@ pub struct Step {
 /// The rules, Numbers of refusal: judging uses 1 to 11, then 12.
 pub fn validate(image: &[u8]) -> Result<(), Refusal> {
     let parsed = Image::parse(image)?;
-    let due = if parsed.read_write() {
-        0
-    } else {
-        image::true_sum(image) % (1 << 32)
-    };
+    let due = if parsed.read_write() { 0 } else { image::true_sum(image) % (1 << 32) };
     if u64::from(parsed.header.checksum) != due {
         return Err(image::refuse(12));
     }
@@ -100,12 +96,7 @@ pub fn footer(image: &[u8]) -> Result<Option<Footer>, Refusal> {
 pub fn track(image: &[u8], track: u32) -> Result<Track, Refusal> {
     let parsed = Image::parse(image)?;
     let data = parsed.track(track)?;
-    Ok(Track {
-        cylinder: track / 2,
-        head: track % 2,
-        place: data.place,
-        revolutions: u32::from(parsed.header.revolutions),
-    })
+    Ok(Track { cylinder: track / 2, head: track % 2, place: data.place, revolutions: u32::from(parsed.header.revolutions) })
 }
 
 /// The question for a revolution; it uses 1 to 11, then 13, then 14.

@@ -10,12 +10,7 @@ const CALL: usize = 6;
 const ANSWER: usize = 16;
 
 /// The rules, Rewriting: each call gets the image as the last one left it; 15 if rows do not fit.
-pub fn replay(
-    image: &mut [u8],
-    calls: &[u64],
-    words: &[u8],
-    answers: &mut [u64],
-) -> Result<(), Refusal> {
+pub fn replay(image: &mut [u8], calls: &[u64], words: &[u8], answers: &mut [u64]) -> Result<(), Refusal> {
     if answers.len() / ANSWER < calls.len() / CALL {
         return Err(refuse(15));
     }
@@ -45,13 +40,7 @@ fn cut(words: &[u8], start: u64, length: u64) -> &[u8] {
 }
 
 /// The values that answer a call, or its refusal; a kind that is not known is a validation.
-fn answer_to(
-    image: &mut [u8],
-    kind: u64,
-    (track, revolution): (u32, u32),
-    duration: u32,
-    words: &[u8],
-) -> Result<Vec<u64>, Refusal> {
+fn answer_to(image: &mut [u8], kind: u64, (track, revolution): (u32, u32), duration: u32, words: &[u8]) -> Result<Vec<u64>, Refusal> {
     match kind {
         1 => crate::header(image).map(header_values),
         2 => crate::footer(image).map(footer_values),
@@ -106,21 +95,12 @@ fn footer_values(footer: Option<Footer>) -> Vec<u64> {
 
 /// Cylinder, head, file offset of the track data header, revolutions.
 fn track_values(track: Track) -> Vec<u64> {
-    vec![
-        u64::from(track.cylinder),
-        u64::from(track.head),
-        track.place,
-        u64::from(track.revolutions),
-    ]
+    vec![u64::from(track.cylinder), u64::from(track.head), track.place, u64::from(track.revolutions)]
 }
 
 /// Duration, words, file offset of the flux.
 fn revolution_values(revolution: Revolution) -> Vec<u64> {
-    vec![
-        u64::from(revolution.duration),
-        u64::from(revolution.words),
-        revolution.place,
-    ]
+    vec![u64::from(revolution.duration), u64::from(revolution.words), revolution.place]
 }
 
 /// How many bytes, and their sum modulo 2^32.

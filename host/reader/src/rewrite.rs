@@ -12,9 +12,7 @@ struct Bytes {
 impl Bytes {
     /// The empty set over an image.
     fn none(image: &[u8]) -> Bytes {
-        Bytes {
-            marks: vec![false; image.len()],
-        }
+        Bytes { marks: vec![false; image.len()] }
     }
 
     /// Adds the bytes of a stretch; an empty one adds nothing.
@@ -41,13 +39,7 @@ struct Target {
 }
 
 /// The rules, Rewriting: 1 to 11, 13, 14, 17, 18; then duration, count, words and checksum.
-pub fn rewrite(
-    image: &mut [u8],
-    track: u32,
-    revolution: u32,
-    duration: u32,
-    words: &[u8],
-) -> Result<(), Refusal> {
+pub fn rewrite(image: &mut [u8], track: u32, revolution: u32, duration: u32, words: &[u8]) -> Result<(), Refusal> {
     let parsed = Image::parse(image)?;
     let target = find(&parsed, track, revolution)?;
     flux::check(words)?;
@@ -74,12 +66,7 @@ pub fn rewrite(
 fn find(parsed: &Image, track: u32, revolution: u32) -> Result<Target, Refusal> {
     let data = parsed.track(track)?;
     let present = data.revolution(revolution)?;
-    Ok(Target {
-        track,
-        revolution,
-        fields: data.place + 4 + 12 * u64::from(revolution),
-        present,
-    })
+    Ok(Target { track, revolution, fields: data.place + 4 + 12 * u64::from(revolution), present })
 }
 
 /// The rules, refusal 18: a byte is claimed by others, or the 8 bytes and the flux overlap.

@@ -4,8 +4,8 @@ use scp_reader::*;
 
 /// The track data header and flux of image A, at 0x2B0.
 const A_TRACK: [u8; 24] = [
-    0x54, 0x52, 0x4B, 0x00, 0x00, 0x12, 0x7A, 0x00, 0x04, 0x00, 0x00, 0x00, 0x10, 0x00, 0x00, 0x00,
-    0x00, 0xA0, 0x00, 0x00, 0x00, 0x01, 0x00, 0xF0,
+    0x54, 0x52, 0x4B, 0x00, 0x00, 0x12, 0x7A, 0x00, 0x04, 0x00, 0x00, 0x00, 0x10, 0x00, 0x00, 0x00, 0x00, 0xA0, 0x00, 0x00, 0x00, 0x01,
+    0x00, 0xF0,
 ];
 
 /// The flux of the rules' rewrite of A.
@@ -97,31 +97,12 @@ fn image_a_is_sound_and_lists_as_in_the_rules() {
     let image = image_a();
     assert_eq!(image.len(), 712);
     assert_eq!(validate(&image), Ok(()));
-    let head = Header {
-        version: 0x16,
-        disk: 0,
-        revolutions: 1,
-        start: 0,
-        end: 0,
-        flags: 1,
-        width: 0,
-        heads: 0,
-        checksum: 980,
-    };
+    let head = Header { version: 0x16, disk: 0, revolutions: 1, start: 0, end: 0, flags: 1, width: 0, heads: 0, checksum: 980 };
     assert_eq!(header(&image), Ok(head));
     assert_eq!(footer(&image), Ok(None));
-    let first = Track {
-        cylinder: 0,
-        head: 0,
-        place: 688,
-        revolutions: 1,
-    };
+    let first = Track { cylinder: 0, head: 0, place: 688, revolutions: 1 };
     assert_eq!(track(&image, 0), Ok(first));
-    let turn = Revolution {
-        duration: 8_000_000,
-        words: 4,
-        place: 704,
-    };
+    let turn = Revolution { duration: 8_000_000, words: 4, place: 704 };
     assert_eq!(revolution(&image, 0, 0), Ok(turn));
     let words = flux(&image, 0, 0).unwrap();
     assert_eq!(words, [0x00, 0xA0, 0x00, 0x00, 0x00, 0x01, 0x00, 0xF0]);
@@ -141,13 +122,7 @@ fn intervals_of_the_starred_examples() {
 
 #[test]
 fn steps_hand_the_reader_on() {
-    let step_of = |interval, open, next| {
-        Ok(Step {
-            interval,
-            open,
-            next,
-        })
-    };
+    let step_of = |interval, open, next| Ok(Step { interval, open, next });
     let words = [0x00, 0xA0, 0x00, 0x00, 0x00, 0x01, 0x00, 0x00];
     assert_eq!(step(&words, 0), step_of(Some(160), 0, 1));
     assert_eq!(step(&words, 1), step_of(Some(65_537), 0, 3));
@@ -205,12 +180,7 @@ fn sum_of_four_bytes_ff_is_1020() {
 #[test]
 fn footer_time_of_eight_bytes_ff_is_minus_1() {
     let image = a_with_footer(b"\x01\x00x\x00", [0, 0, 712, 0, 0, 0]);
-    let found = Footer {
-        offsets: [0, 0, 712, 0, 0, 0],
-        created: -1,
-        modified: 1_000_000_000_000,
-        versions: [0x15, 0x13, 0x12, 0x16],
-    };
+    let found = Footer { offsets: [0, 0, 712, 0, 0, 0], created: -1, modified: 1_000_000_000_000, versions: [0x15, 0x13, 0x12, 0x16] };
     assert_eq!(footer(&image), Ok(Some(found)));
 }
 
@@ -365,17 +335,9 @@ fn refusal_8_string() {
         let position = index as u64;
         all_refuse(&a_with_footer(good, at(index, 687)), 8, position);
         all_refuse(&a_with_footer(good, at(index, 600)), 8, position);
-        all_refuse(
-            &a_with_footer(b"\x02\x00h\x00\x00", at(index, 712)),
-            8,
-            position,
-        );
+        all_refuse(&a_with_footer(b"\x02\x00h\x00\x00", at(index, 712)), 8, position);
         all_refuse(&a_with_footer(b"\x02\x00hi!", at(index, 712)), 8, position);
-        all_refuse(
-            &a_with_footer(b"\x03\x00hi\x00", at(index, 712)),
-            8,
-            position,
-        );
+        all_refuse(&a_with_footer(b"\x03\x00hi\x00", at(index, 712)), 8, position);
         all_refuse(&a_with_footer(b"\x02\x00hi", at(index, 712)), 8, position);
         all_refuse(&a_with_footer(good, at(index, 716)), 8, position);
         all_refuse(&a_with_footer(good, at(index, u32::MAX)), 8, position);
@@ -503,10 +465,7 @@ fn refusal_17_words() {
 /// The rewrite of a revolution is refused as Shared and changes no byte.
 fn refuses_as_shared(image: &[u8], track: u32, revolution: u32) {
     let mut copy = image.to_vec();
-    assert_eq!(
-        rewrite(&mut copy, track, revolution, 1, &[]),
-        refused(18, 0)
-    );
+    assert_eq!(rewrite(&mut copy, track, revolution, 1, &[]), refused(18, 0));
     assert_eq!(copy, image);
 }
 
@@ -666,45 +625,19 @@ fn replay_gives_each_call_the_image_as_the_last_one_left_it() {
     let words = [&[0xEE], &NEW_FLUX[..]].concat();
     let mut image = image_a();
     replays(&mut image, &calls, &words, &expected);
-    assert_eq!(
-        image[704..],
-        [0x00, 0xF0, 0x00, 0x00, 0x00, 0x01, 0x00, 0xF0]
-    );
+    assert_eq!(image[704..], [0x00, 0xF0, 0x00, 0x00, 0x00, 0x01, 0x00, 0xF0]);
 }
 
 #[test]
 fn replay_gives_footer_rows_and_positions() {
     let mut image = a_with_footer(b"\x01\x00x\x00", [0, 0, 712, 0, 0, 0]);
     let mut answers = [7; 16];
-    assert_eq!(
-        replay(&mut image, &[2, 0, 0, 0, 0, 0], &[], &mut answers),
-        Ok(())
-    );
+    assert_eq!(replay(&mut image, &[2, 0, 0, 0, 0, 0], &[], &mut answers), Ok(()));
     let time = 1_000_000_000_000;
-    let row = [
-        0,
-        0,
-        1,
-        0,
-        0,
-        712,
-        0,
-        0,
-        0,
-        u64::MAX,
-        time,
-        0x15,
-        0x13,
-        0x12,
-        0x16,
-        0,
-    ];
+    let row = [0, 0, 1, 0, 0, 712, 0, 0, 0, u64::MAX, time, 0x15, 0x13, 0x12, 0x16, 0];
     assert_eq!(answers, row);
     image[714] = 0;
-    assert_eq!(
-        replay(&mut image, &[2, 0, 0, 0, 0, 0], &[], &mut answers),
-        Ok(())
-    );
+    assert_eq!(replay(&mut image, &[2, 0, 0, 0, 0, 0], &[], &mut answers), Ok(()));
     assert_eq!(answers, [8, 2, 0, 0, 0, 0, 0, 0, 0, 0, 0, 0, 0, 0, 0, 0]);
     assert_eq!(replay(&mut image, &[0; 5], &[], &mut []), Ok(()));
 }

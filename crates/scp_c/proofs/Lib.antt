@@ -1,0 +1,4 @@
+pub mod Packing
+pub mod Lending
+pub mod Putting
+pub mod Passing

@@ -1,0 +1,35 @@
+-- The number is that of the answer which the call gives, in each of its cases.
+use mathlib.Core.Path.{sym, ap, _∙_}
+use Rattle.scp.specs.Answers.{Answer, ofValidated}
+use Rattle.scp_c.specs.Boundary.{codeOf, numbersOf}
+use borrow.Author.Needs.{needs}
+use Rattle.scp_c.proofs.scp_validate.Statement.{statement}
+use Rattle.scp_c.proofs.scp_validate.Tie as tie
+
+validate-requires : tie.Need-validate-requires
+validate-requires c κs = search needs
+
+enum-told : tie.Need-enum-told
+enum-told c = search needs
+
+enum-known-found : tie.Need-enum-known-found
+enum-known-found c = search needs
+
+code-requires : tie.Need-code-requires
+code-requires c κs = search needs
+
+returns : tie.Need-returns
+returns c =
+    let at-call = c .before .before in
+    ap (λ (a : Answer). codeOf (numbersOf a)) (ap ofValidated (sym (c .enum-told .given .1)) ∙ at-call .validate .ensures)
+
+returns-2 : tie.Need-returns-2
+returns-2 c =
+    let at-told = c .before .before in
+    let at-call = at-told .before .before in
+    c .code .ensures ∙ ap (λ (a : Answer). codeOf (numbersOf a)) (ap ofValidated (sym (at-told .found .given .1)) ∙ at-call .validate .ensures)
+
+pub scp-validate-spec : {M : Type 1} → statement M
+scp-validate-spec =
+    tie.close
+    (tie.spec validate-requires enum-told enum-known-found code-requires returns returns-2)

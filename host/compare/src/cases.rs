@@ -1,0 +1,189 @@
+//! Cases by number: an input by chance, and the questions that are put to both.
+
+use crate::generate;
+use crate::question::Question;
+use crate::random::Random;
+use crate::sequence::{ANSWER, CALL};
+
+/// An input, an image or flux, and questions about it.
+pub struct Case {
+    pub bytes: Vec<u8>,
+    pub questions: Vec<Question>,
+}
+
+/// The case of a number, under a seed.
+pub fn case(seed: u64, number: u64) -> Case {
+    let mut random = Random::new(seed.wrapping_mul(0xD6E8_FEB8_6659_FD93) ^ number.wrapping_mul(0xA24B_AED4_963E_E407));
+    match number % 8 {
+        0..=3 => image_case(&mut random),
+        4 | 5 => sequence_case(&mut random),
+        6 => flux_case(&mut random),
+        _ => times_case(&mut random),
+    }
+}
+
+// ---- images
+
+/// An image, and every question about some of its tracks, present, absent and none.
+fn image_case(random: &mut Random) -> Case {
+    let bytes = generate::image(random);
+    let mut questions =
+        vec![Question::Validate, Question::Header { places: places(random, 9) }, Question::Footer { places: places(random, 13) }];
+    for _ in 0..3 {
+        let track = some_track(&bytes, random);
+        questions.push(Question::Track { track, places: places(random, 4) });
+        questions.push(Question::TrackSpeed { track, places: places(random, 3) });
+        for _ in 0..2 {
+            let revolution = some_revolution(&bytes, random);
+            let size = 2 * count(&bytes, track, revolution).min(1 << 20) as usize;
+            questions.push(Question::Revolution { track, revolution, places: places(random, 3) });
+            questions.push(Question::Flux { track, revolution, places: places(random, size) });
+            questions.push(Question::Speed { track, revolution, places: places(random, 2) });
+            questions.push(rewrite(&bytes, track, revolution, random));
+        }
+    }
+    Case { bytes, questions }
+}
+
+/// So many places as needed, or some more or fewer.
+fn places(random: &mut Random, needed: usize) -> usize {
+    match random.below(6) {
+        0 => needed.saturating_sub(1),
+        1 => needed + 1 + random.below(3),
+        2 => random.below(needed + 1),
+        _ => needed,
+    }
+}
+
+/// A little-endian number of the image, 0 where it is not there.
+fn number_at(image: &[u8], place: usize) -> u32 {
+    image.get(place..place + 4).map_or(0, |bytes| u32::from_le_bytes([bytes[0], bytes[1], bytes[2], bytes[3]]))
+}
+
+/// A track: mostly one with an entry in the table, else any.
+fn some_track(image: &[u8], random: &mut Random) -> u32 {
+    let present: Vec<u32> = (0..168).filter(|&track| number_at(image, 16 + 4 * track as usize) != 0).collect();
+    match random.below(8) {
+        0 => random.pick(&[0, 166, 167, 168, 169, 255, 256, u32::MAX]),
+        1 => random.edgy32(),
+        _ if present.is_empty() => random.below(168) as u32,
+        _ => random.pick(&present),
+    }
+}
+
+/// A revolution: mostly one that the header counts, else any.
+fn some_revolution(image: &[u8], random: &mut Random) -> u32 {
+    let counted = image.get(5).copied().unwrap_or(1).clamp(1, 5);
+    match random.below(8) {
+        0 => u32::from(counted),
+        1 => random.edgy32(),
+        _ => random.below(counted.into()) as u32,
+    }
+}
+
+/// How many words a revolution seems to have.
+fn count(image: &[u8], track: u32, revolution: u32) -> u32 {
+    if track > 167 || revolution > 4 {
+        return 0;
+    }
+    let header = number_at(image, 16 + 4 * track as usize) as usize;
+    number_at(image, header.saturating_add(8 + 12 * revolution as usize))
+}
+
+/// A rewrite: as many words as there are or fewer, or a few too many, or a byte too many.
+fn rewrite(image: &[u8], track: u32, revolution: u32, random: &mut Random) -> Question {
+    let words = new_words(image, track, revolution, random);
+    Question::Rewrite { track, revolution, duration: generate::duration(random), words }
+}
+
+fn new_words(image: &[u8], track: u32, revolution: u32, random: &mut Random) -> Vec<u8> {
+    let most = count(image, track, revolution).min(64) as usize;
+    let words = match random.below(6) {
+        0 => most + 1,
+        1 => most,
+        _ => random.between(0, most),
+    };
+    let mut bytes: Vec<u8> = (0..words).flat_map(|_| random.pick(&[0u16, 1, 0x0140, 0x1234, 0xABCD, 0xFFFF]).to_be_bytes()).collect();
+    if random.once_in(12) {
+        bytes.push(0);
+    }
+    bytes
+}
+
+// ---- sequences of calls
+
+/// An image and a sequence of calls on it, most of them rewrites and questions of the same few revolutions.
+fn sequence_case(random: &mut Random) -> Case {
+    let bytes = generate::image(random);
+    let (mut calls, mut words) = (Vec::new(), Vec::new());
+    let tracks = [some_track(&bytes, random), some_track(&bytes, random)];
+    for _ in 0..random.below(11) {
+        let (track, revolution) = (random.pick(&tracks), some_revolution(&bytes, random));
+        let start = words.len() as u64;
+        let kind = match random.below(4) {
+            0 | 1 => 8,
+            2 => random.below(9) as u64,
+            _ => random.pick(&[0, 4, 5, 9, u64::MAX]),
+        };
+        if kind == 8 {
+            words.extend(new_words(&bytes, track, revolution, random));
+        }
+        let duration = u64::from(generate::duration(random)) + (random.below(2) as u64 * (1 << 32));
+        calls.extend([kind, track.into(), revolution.into(), duration, start, words.len() as u64 - start]);
+        if random.once_in(12) {
+            let field = calls.len() - 1 - random.below(5);
+            calls[field] = random.pick(&[0, 1, 7, u64::MAX, 1 << 32, (1 << 32) + 1, u64::from(u32::MAX)]);
+        }
+    }
+    let rows = calls.len() / CALL;
+    calls.extend(vec![8; if random.once_in(3) { random.below(CALL) } else { 0 }]);
+    let places = match random.below(8) {
+        0 => (ANSWER * rows).saturating_sub(1),
+        1 => ANSWER * rows + random.below(40),
+        _ => ANSWER * rows,
+    };
+    Case { bytes, questions: vec![Question::Sequence { calls, words, places }] }
+}
+
+// ---- flux and times
+
+/// Flux of words, and now and then of an odd number of bytes: steps from some words, and all intervals into some places.
+fn flux_case(random: &mut Random) -> Case {
+    let most = random.pick(&[3, 12, 12, 300]);
+    let words = generate::words(random, most);
+    let closing = words.iter().filter(|&&word| word != 0).count();
+    let count = words.len() as u64;
+    let mut bytes: Vec<u8> = words.into_iter().flat_map(|word| word.to_be_bytes()).collect();
+    if random.once_in(10) {
+        bytes.push(random.byte());
+    }
+    let mut questions: Vec<Question> = (0..count.min(20)).map(|word| Question::Step { word, places: 3 }).collect();
+    for word in [count, count + 1, 1 << 63, u64::MAX, u64::MAX / 2] {
+        questions.push(Question::Step { word, places: places(random, 3) });
+    }
+    for _ in 0..4 {
+        questions.push(Question::Intervals { times: places(random, closing), places: places(random, 2) });
+    }
+    Case { bytes, questions }
+}
+
+/// Times at the edges of what words express, into some room.
+fn times_case(random: &mut Random) -> Case {
+    let long = random.once_in(60);
+    let time = |random: &mut Random| match random.below(40) {
+        0 => random.pick(&[0, 65_536, 131_072, 4_294_967_296, 4_294_967_297, 1 << 40, u64::MAX, 4_294_901_760]),
+        1 if long => random.pick(&[4_294_967_295, 4_294_967_294, 4_294_901_761, 2_147_483_649]),
+        2..=6 => random.pick(&[1, 2, 65_535, 65_537, 65_538, 131_071, 131_073, 196_607, 1_000_001]),
+        _ => 1 + random.below(60_000) as u64,
+    };
+    let count = random.pick(&[0, 1, 2, 3, 8, 30]);
+    let times: Vec<u64> = (0..count).map(|_| time(random)).collect();
+    let needed: u64 = times.iter().map(|time| (2 * (time / 65_536 + 1)).min(1 << 20)).sum();
+    let question = |random: &mut Random| Question::Words {
+        times: times.clone(),
+        room: places(random, needed as usize).min(1 << 22),
+        places: places(random, 1),
+    };
+    let questions = (0..3).map(|_| question(random)).collect();
+    Case { bytes: Vec::new(), questions }
+}

@@ -1,0 +1,320 @@
+//! Images by chance: valid ones of every shape, and faults put into them.
+
+use crate::image::{set, store_checksum, FooterPart, Layout, Parts, Placed, RevolutionPart, TrackPart, TABLE_END};
+use crate::random::Random;
+
+/// An image by chance: valid, or with a fault or several.
+pub fn image(random: &mut Random) -> Vec<u8> {
+    let parts = parts(random);
+    let mut placed = parts.build(random);
+    if random.once_in(3) {
+        overlap(&parts, &mut placed, random);
+        store_checksum(&mut placed.image);
+    }
+    let faults = random.pick(&[0, 0, 0, 1, 1, 1, 1, 2]);
+    for _ in 0..faults {
+        spoil(&parts, &mut placed, random);
+    }
+    if faults > 0 && random.once_in(2) {
+        store_checksum(&mut placed.image);
+    }
+    placed.image
+}
+
+/// Parts of a valid image.
+pub fn parts(random: &mut Random) -> Parts {
+    let read_write = random.once_in(5);
+    let revolutions = if read_write { 1 } else { random.between(1, 5) as u8 };
+    let heads = random.pick(&[0, 0, 0, 1, 2]);
+    let footer = random.once_in(2).then(|| footer(random));
+    let mut flags = random.byte() & 0xCF;
+    flags |= 0x10 * u8::from(read_write) + 0x20 * u8::from(footer.is_some());
+    let (start, end) = span(random);
+    let numbers = numbers(random, start, end, heads);
+    let tracks = numbers.into_iter().map(|number| track(random, number, revolutions)).collect();
+    let trailer = if random.once_in(3) { b"01/02/2026 12:34:56 PM".to_vec() } else { Vec::new() };
+    let layout = random.pick(&[Layout::InOrder, Layout::Gaps, Layout::Shuffled]);
+    let width = random.pick(&[0, 16]);
+    let (version, disk) = (random.byte(), random.byte());
+    Parts { version, disk, revolutions, start, end, flags, width, heads, tracks, footer, trailer, layout }
+}
+
+/// Start and end track: few or all.
+fn span(random: &mut Random) -> (u8, u8) {
+    let start = random.pick(&[0, 0, 0, 1, 80, 166, 167]);
+    let end = (start + random.pick(&[0, 1, 3, 7, 20, 167])).min(167);
+    (start, end)
+}
+
+/// The numbers of the tracks that are there: none, a few, or all that may be.
+fn numbers(random: &mut Random, start: u8, end: u8, heads: u8) -> Vec<u8> {
+    let held = |number: &u8| heads == 0 || u8::from(heads == 2) == number % 2;
+    let rarity = random.pick(&[1, 2, 2, 4, 30]);
+    let mut numbers: Vec<u8> = (start..=end).filter(held).collect();
+    if numbers.len() > 12 && !random.once_in(40) {
+        random.shuffle(&mut numbers);
+        numbers.truncate(6);
+        numbers.sort_unstable();
+    }
+    numbers.retain(|_| random.once_in(rarity));
+    numbers
+}
+
+/// A track with its revolutions.
+fn track(random: &mut Random, number: u8, revolutions: u8) -> TrackPart {
+    let revolution = |random: &mut Random| RevolutionPart { duration: duration(random), words: words(random, 12) };
+    TrackPart { number, revolutions: (0..revolutions).map(|_| revolution(random)).collect() }
+}
+
+/// A duration: none, usual, or any.
+pub fn duration(random: &mut Random) -> u32 {
+    match random.below(4) {
+        0 => 0,
+        1 => 8_000_000 + random.below(2000) as u32 - 1000,
+        _ => random.edgy32(),
+    }
+}
+
+/// Up to so many words, zeros among them.
+pub fn words(random: &mut Random, most: usize) -> Vec<u16> {
+    let zeros = random.pick(&[1, 2, 5, 1000]);
+    let count = random.between(0, most);
+    let word = |random: &mut Random| match random.once_in(zeros) {
+        true => 0,
+        false => random.pick(&[1, 3, 80, 160, 0x0140, 0x7FFF, 0x8000, 0xFF00, 0x00FF, 0xFFFF]),
+    };
+    (0..count).map(|_| word(random)).collect()
+}
+
+/// A footer with strings.
+fn footer(random: &mut Random) -> FooterPart {
+    let string = |random: &mut Random| {
+        let size = random.pick(&[0, 1, 2, 9, 300]);
+        random.once_in(2).then(|| (0..size).map(|_| random.byte().max(1)).collect())
+    };
+    let time = |random: &mut Random| random.pick(&[0, -1, 1, 255, 1_700_000_000, i64::MIN, i64::MAX]);
+    let format = random.pick(&[0x16, 0x16, 0x17, 0xFF]);
+    FooterPart {
+        strings: std::array::from_fn(|_| string(random)),
+        created: time(random),
+        modified: time(random),
+        versions: [random.byte(), random.byte(), random.byte(), format],
+    }
+}
+
+// ---- overlaps that the rules allow
+
+/// Lets a part overlap another where that leaves the image openable, or nearly so.
+fn overlap(parts: &Parts, placed: &mut Placed, random: &mut Random) {
+    for _ in 0..random.between(1, 3) {
+        match random.below(4) {
+            0 => share_string(parts, placed, random),
+            1 => header_in_header(parts, placed, random),
+            _ => move_flux(parts, placed, random),
+        }
+    }
+}
+
+/// A track and a revolution that are there.
+fn some_revolution(parts: &Parts, random: &mut Random) -> Option<(usize, usize)> {
+    if parts.tracks.is_empty() {
+        return None;
+    }
+    let track = random.below(parts.tracks.len());
+    Some((track, random.below(parts.tracks[track].revolutions.len())))
+}
+
+/// Puts the flux of a revolution elsewhere: onto that of another, onto a header, to the end, or anywhere above its header.
+fn move_flux(parts: &Parts, placed: &mut Placed, random: &mut Random) {
+    let Some((track, revolution)) = some_revolution(parts, random) else { return };
+    let Some((other, other_revolution)) = some_revolution(parts, random) else { return };
+    let header = placed.headers[track];
+    let size = 2 * parts.tracks[track].revolutions[revolution].words.len();
+    let end = placed.image.len() - if parts.footer.is_some() { 48 } else { 0 };
+    let place = match random.below(6) {
+        0 => placed.flux[other][other_revolution],
+        1 => placed.headers[other] + random.below(20),
+        2 => end - size.min(end),
+        3 => (placed.flux[other][other_revolution] + 2).saturating_sub(2 * random.below(3)),
+        4 => header + 4 + 12 * revolution + random.below(13),
+        _ => random.between(TABLE_END, placed.image.len()),
+    };
+    if header <= place {
+        placed.flux[track][revolution] = place;
+        set(&mut placed.image, header + 12 + 12 * revolution, &((place - header) as u32).to_le_bytes());
+    }
+}
+
+/// Gives two strings the same place, or a string the place of something else.
+fn share_string(parts: &Parts, placed: &mut Placed, random: &mut Random) {
+    if parts.footer.is_none() {
+        return;
+    }
+    let footer = placed.image.len() - 48;
+    let (from, to) = (footer + 4 * random.below(6), footer + 4 * random.below(6));
+    let mut offset = [0; 4];
+    offset.copy_from_slice(&placed.image[from..from + 4]);
+    if random.once_in(4) {
+        let at = random.between(TABLE_END, footer) as u32;
+        offset = at.to_le_bytes();
+    }
+    set(&mut placed.image, to, &offset);
+}
+
+/// Puts a track data header inside that of another track: a duration that reads "TRK" and the number.
+fn header_in_header(parts: &Parts, placed: &mut Placed, random: &mut Random) {
+    let Some((track, revolution)) = some_revolution(parts, random) else { return };
+    let Some((other, _)) = some_revolution(parts, random) else { return };
+    let place = placed.headers[track] + 4 + 12 * revolution;
+    set(&mut placed.image, place, &[b'T', b'R', b'K', parts.tracks[other].number]);
+    let entry = 16 + 4 * usize::from(parts.tracks[other].number);
+    set(&mut placed.image, entry, &(place as u32).to_le_bytes());
+}
+
+// ---- faults
+
+/// Puts one fault of some kind into the image; some leave it valid.
+fn spoil(parts: &Parts, placed: &mut Placed, random: &mut Random) {
+    match random.below(14) {
+        0 => resize(&mut placed.image, random),
+        1 => spoil_byte(&mut placed.image, 0, 3, random),
+        2 => spoil_field(&mut placed.image, 9, &[1, 15, 16, 17, 32, 255], random),
+        3 => spoil_field(&mut placed.image, 5, &[0, 1, 2, 5, 6, 255], random),
+        4 => spoil_span(&mut placed.image, random),
+        5 => spoil_field(&mut placed.image, 10, &[0, 1, 2, 3, 255], random),
+        6 => spoil_footer(&mut placed.image, random),
+        7 => spoil_string(&mut placed.image, random),
+        8 => spoil_entry(&mut placed.image, random),
+        9 => spoil_track(parts, placed, random),
+        10 => spoil_revolution(parts, placed, random),
+        11 => spoil_field(&mut placed.image, 12 + random.below(4), &[0, 1, 255], random),
+        12 => flip_flag(&mut placed.image, random),
+        _ => flip_bytes(&mut placed.image, random),
+    }
+}
+
+/// Another length: at an edge, a byte more or less, or any.
+fn resize(image: &mut Vec<u8>, random: &mut Random) {
+    let now = image.len();
+    let edges = [0, 1, 16, 687, 688, 689, 735, 736, 737, now.saturating_sub(1), now.saturating_sub(48), now + 1, now + 48];
+    let size = if random.once_in(3) { random.below(now + 2) } else { random.pick(&edges) };
+    image.resize(size, 0);
+}
+
+/// Changes one of n bytes from a place on.
+fn spoil_byte(image: &mut [u8], place: usize, n: usize, random: &mut Random) {
+    let at = place + random.below(n);
+    if let Some(byte) = image.get_mut(at) {
+        *byte ^= 1 << random.below(8);
+    }
+}
+
+/// Sets a byte to one of the values.
+fn spoil_field(image: &mut [u8], place: usize, values: &[u8], random: &mut Random) {
+    set(image, place, &[random.pick(values)]);
+}
+
+/// Other start and end tracks.
+fn spoil_span(image: &mut [u8], random: &mut Random) {
+    let edges = [0, 1, 2, 5, 6, 80, 166, 167, 168, 255];
+    let span = [random.pick(&edges), random.pick(&edges)];
+    set(image, 6, &span);
+}
+
+/// A footer without its sign or too old, or one that is flagged and not there.
+fn spoil_footer(image: &mut [u8], random: &mut Random) {
+    let Some(footer) = image.len().checked_sub(48) else { return };
+    match random.below(4) {
+        0 => spoil_byte(image, footer + 44, 4, random),
+        1 => spoil_field(image, footer + 0x2B, &[0, 0x15, 0x16, 0x17], random),
+        2 => set(image, 8, &[0x20]),
+        _ => spoil_byte(image, footer, 48, random),
+    }
+}
+
+/// A string misplaced or malformed.
+fn spoil_string(image: &mut [u8], random: &mut Random) {
+    let Some(footer) = image.len().checked_sub(48) else { return };
+    let slot = footer + 4 * random.below(6);
+    let offset = u32::from_le_bytes([image[slot], image[slot + 1], image[slot + 2], image[slot + 3]]) as usize;
+    match random.below(5) {
+        0 => spoil_byte(image, offset, 2, random),
+        1 => set(image, offset + 2 + random.below(9), &[0]),
+        2 => set(image, offset + 2 + random.below(9), &[1]),
+        _ => {
+            let near = random.below(5) as u32;
+            let values = [near, 685 + near, (footer as u32).wrapping_sub(near), footer as u32 + near, u32::MAX - near];
+            let offset = random.pick(&values);
+            set(image, slot, &offset.to_le_bytes());
+        }
+    }
+}
+
+/// An entry of the table: another value, another slot.
+fn spoil_entry(image: &mut [u8], random: &mut Random) {
+    let slot = 16 + 4 * random.below(168);
+    let other = 16 + 4 * random.below(168);
+    if image.len() < TABLE_END {
+        return;
+    }
+    let near = random.below(8) as u32;
+    let mut value = [image[other], image[other + 1], image[other + 2], image[other + 3]];
+    if random.once_in(2) {
+        let end = image.len() as u32;
+        let values = [near, 684 + near, end - near, end + near, u32::MAX - near, 1 << 31];
+        value = random.pick(&values).to_le_bytes();
+    }
+    set(image, slot, &value);
+}
+
+/// A track's entry moved a little or far, its sign or its number changed.
+fn spoil_track(parts: &Parts, placed: &mut Placed, random: &mut Random) {
+    let Some((track, _)) = some_revolution(parts, random) else { return };
+    let header = placed.headers[track];
+    let slot = 16 + 4 * usize::from(parts.tracks[track].number);
+    let end = placed.image.len() as u32;
+    let near = random.below(50) as u32;
+    let values = [header as u32 + 1, header as u32 - 1, end.saturating_sub(near), end + near, u32::MAX - near, 687, 688];
+    match random.below(3) {
+        0 => set(&mut placed.image, slot, &random.pick(&values).to_le_bytes()),
+        1 => spoil_byte(&mut placed.image, header, 3, random),
+        _ => set(&mut placed.image, header + 3, &[random.byte()]),
+    }
+}
+
+/// A revolution's duration, count or distance changed: by little, to the end, or to an edge of 32 bits.
+fn spoil_revolution(parts: &Parts, placed: &mut Placed, random: &mut Random) {
+    let Some((track, revolution)) = some_revolution(parts, random) else { return };
+    let (header, flux) = (placed.headers[track], placed.flux[track][revolution]);
+    let field = header + 4 + 12 * revolution;
+    let end = placed.image.len() - if parts.footer.is_some() { 48.min(placed.image.len()) } else { 0 };
+    let room = end.saturating_sub(flux) as u32 / 2;
+    let away = end.saturating_sub(header) as u32;
+    let counts = [0, room, room + 1, 1 << 31, (1 << 31) + 1, u32::MAX, random.edgy32()];
+    let distances = [0, 1, away, away + 1, away.saturating_sub(2), u32::MAX, random.edgy32()];
+    match random.below(4) {
+        0 => set(&mut placed.image, field, &random.edgy32().to_le_bytes()),
+        1 => set(&mut placed.image, field + 4, &random.pick(&counts).to_le_bytes()),
+        2 => set(&mut placed.image, field + 8, &random.pick(&distances).to_le_bytes()),
+        _ => {
+            set(&mut placed.image, field + 4, &random.pick(&[0u32, 1]).to_le_bytes());
+            set(&mut placed.image, field + 8, &random.pick(&distances).to_le_bytes());
+        }
+    }
+}
+
+/// One bit of FLAGS.
+fn flip_flag(image: &mut [u8], random: &mut Random) {
+    spoil_byte(image, 8, 1, random);
+}
+
+/// A few bits anywhere.
+fn flip_bytes(image: &mut [u8], random: &mut Random) {
+    for _ in 0..random.between(1, 6) {
+        let size = image.len();
+        if size > 0 {
+            let part = random.pick(&[16, TABLE_END, size, size]).min(size);
+            spoil_byte(image, 0, part, random);
+        }
+    }
+}

@@ -1,0 +1,87 @@
+//! Images laid out as real tools write them, and the worked examples of the public text.
+
+use crate::image::{FooterPart, Layout, Parts, RevolutionPart, TrackPart};
+use crate::random::Random;
+
+/// Cells of a double-density disk at 25 ns: intervals of 4, 6 and 8 µs with some jitter, now and then a long gap.
+pub fn flux_words(random: &mut Random, count: usize) -> Vec<u16> {
+    let word = |random: &mut Random| match random.below(2000) {
+        0 => 0,
+        _ => random.pick(&[160, 240, 320]) - 8 + random.below(17) as u16,
+    };
+    let mut words: Vec<u16> = (0..count).map(|_| word(random)).collect();
+    if let Some(last) = words.last_mut() {
+        *last = 160;
+    }
+    words
+}
+
+/// What a tool writes: which tracks, how many revolutions, and what comes after the flux.
+#[derive(Clone, Copy)]
+pub struct Style {
+    pub version: u8,
+    pub disk: u8,
+    pub flags: u8,
+    pub heads: u8,
+    pub revolutions: u8,
+    pub last_track: u8,
+    pub timestamp: &'static str,
+    pub application: &'static str,
+}
+
+/// A double-sided capture of five revolutions, with the timestamp after the flux and a footer that names its application.
+pub const CAPTURE: Style = Style {
+    version: 0,
+    disk: 0x80,
+    flags: 0x23,
+    heads: 0,
+    revolutions: 5,
+    last_track: 159,
+    timestamp: "01/05/2026 10:14:27 AM",
+    application: "SuperCard Pro software v2.20",
+};
+
+/// An older capture without footer, version 1.6 in the header.
+pub const OLD_CAPTURE: Style =
+    Style { version: 0x16, flags: 0x01, revolutions: 3, timestamp: "07/14/2014 09:00:00 PM", application: "", ..CAPTURE };
+
+/// A single-sided capture: every other entry.
+pub const SINGLE_SIDED: Style = Style { heads: 1, revolutions: 2, timestamp: "", application: "Greaseweazle 1.16", flags: 0x61, ..CAPTURE };
+
+/// A read/write image of one revolution, as a drive emulator keeps it.
+pub const READ_WRITE: Style = Style { flags: 0x31, revolutions: 1, timestamp: "", application: "HxC", ..CAPTURE };
+
+/// The image of a style, with so many words a revolution.
+pub fn image(style: &Style, words: usize) -> Vec<u8> {
+    let mut random = Random::new(4711);
+    let step = if style.heads == 0 { 1 } else { 2 };
+    let first = u8::from(style.heads == 2);
+    let revolution =
+        |random: &mut Random| RevolutionPart { duration: 8_000_000 + random.below(4000) as u32 - 2000, words: flux_words(random, words) };
+    let mut tracks = Vec::new();
+    for number in (first..=style.last_track).step_by(step) {
+        tracks.push(TrackPart { number, revolutions: (0..style.revolutions).map(|_| revolution(&mut random)).collect() });
+    }
+    let application = [None, None, None, None, Some(style.application.as_bytes().to_vec()), None];
+    let footer = (style.flags & 0x20 != 0).then_some(FooterPart {
+        strings: application,
+        created: 1_767_608_067,
+        modified: 1_767_608_067,
+        versions: [0x22, 0x12, 0x13, 0x16],
+    });
+    let parts = Parts {
+        version: style.version,
+        disk: style.disk,
+        revolutions: style.revolutions,
+        start: 0,
+        end: style.last_track,
+        flags: style.flags,
+        width: 0,
+        heads: style.heads,
+        tracks,
+        footer,
+        trailer: style.timestamp.as_bytes().to_vec(),
+        layout: Layout::InOrder,
+    };
+    parts.build(&mut random).image
+}

@@ -1,0 +1,228 @@
+//! One call, put to the library and to the reader: answers, every element of every lent buffer, and the guards around them.
+
+use crate::guarded::{Guarded, Same};
+use scp::raw;
+use scp_reader as reader;
+use std::fmt::Debug;
+
+/// A call with its arguments; `places` is the size of the buffer lent for numbers.
+#[derive(Clone, Debug, PartialEq, Eq)]
+pub enum Question {
+    Validate,
+    Header { places: usize },
+    Footer { places: usize },
+    Track { track: u32, places: usize },
+    Revolution { track: u32, revolution: u32, places: usize },
+    Flux { track: u32, revolution: u32, places: usize },
+    Speed { track: u32, revolution: u32, places: usize },
+    TrackSpeed { track: u32, places: usize },
+    Rewrite { track: u32, revolution: u32, duration: u32, words: Vec<u8> },
+    Sequence { calls: Vec<u64>, words: Vec<u8>, places: usize },
+    Step { word: u64, places: usize },
+    Intervals { times: usize, places: usize },
+    Words { times: Vec<u64>, room: usize, places: usize },
+}
+
+/// Where the two differ.
+#[derive(Clone, Debug, PartialEq, Eq)]
+pub struct Difference {
+    pub what: String,
+    pub reader: String,
+    pub library: String,
+}
+
+/// What the lent buffers hold before a call, and the guards.
+const NUMBER: u64 = 0xD1D2_D3D4_D5D6_D7D8;
+const FLOAT: f64 = -12345.678;
+const BYTE: u8 = 0xE9;
+
+/// Puts the question about these bytes (an image, or flux) to both, and gives the reader's refusal number, or 0, where they agree.
+pub fn compare(bytes: &[u8], question: &Question) -> Result<u32, Difference> {
+    match question {
+        Question::Rewrite { track, revolution, duration, words } => rewrite(bytes, *track, *revolution, *duration, words),
+        Question::Sequence { calls, words, places } => crate::sequence::compare(bytes, calls, words, *places),
+        Question::Intervals { times, places } => intervals(bytes, *times, *places),
+        Question::Words { times, room, places } => words(times, *room, *places),
+        _ => ask(bytes, question),
+    }
+}
+
+/// The questions that only read the bytes and fill one buffer.
+fn ask(bytes: &[u8], question: &Question) -> Result<u32, Difference> {
+    let lent = Guarded::new(bytes, BYTE);
+    let image = lent.contents();
+    let number = match *question {
+        Question::Validate => {
+            let expected = reader::validate(image).map(|()| Vec::new());
+            fill(expected, 0, NUMBER, |_| raw::validate(image))
+        }
+        Question::Header { places } => {
+            let expected = reader::header(image).map(|header| header_numbers(&header).to_vec());
+            fill(expected, places, NUMBER, |out| raw::header(image, out))
+        }
+        Question::Footer { places } => {
+            let expected = reader::footer(image).map(|footer| footer_numbers(&footer).to_vec());
+            fill(expected, places, NUMBER, |out| raw::footer(image, out))
+        }
+        Question::Track { track, places } => {
+            let expected = reader::track(image, track).map(|track| track_numbers(&track).to_vec());
+            fill(expected, places, NUMBER, |out| raw::track(image, track, out))
+        }
+        Question::Revolution { track, revolution, places } => {
+            let expected = reader::revolution(image, track, revolution).map(|found| revolution_numbers(&found).to_vec());
+            fill(expected, places, NUMBER, |out| raw::revolution(image, track, revolution, out))
+        }
+        Question::Flux { track, revolution, places } => {
+            let expected = reader::flux(image, track, revolution);
+            fill(expected, places, BYTE, |out| raw::flux(image, track, revolution, out))
+        }
+        Question::Speed { track, revolution, places } => {
+            let floats = |speed: Option<f64>| speed.map_or(vec![0.0, 0.0], |rpm| vec![1.0, rpm]);
+            let expected = reader::speed(image, track, revolution).map(floats);
+            fill(expected, places, FLOAT, |out| raw::speed(image, track, revolution, out))
+        }
+        Question::TrackSpeed { track, places } => {
+            let floats = |speeds: Option<(f64, f64)>| speeds.map_or(vec![0.0; 3], |(slow, fast)| vec![1.0, slow, fast]);
+            let expected = reader::track_speed(image, track).map(floats);
+            fill(expected, places, FLOAT, |out| raw::track_speed(image, track, out))
+        }
+        Question::Step { word, places } => {
+            let numbers = |step: reader::Step| vec![step.interval.unwrap_or(0), step.open, step.next];
+            let expected = reader::step(image, word).map(numbers);
+            fill(expected, places, NUMBER, |out| raw::step(image, word, out))
+        }
+        _ => unreachable!("{question:?} is compared elsewhere"),
+    }?;
+    same("the bytes asked about", &lent, bytes)?;
+    Ok(number)
+}
+
+// ---- what the boundary makes of an answer
+
+/// A refusal as the boundary returns it.
+fn code(refusal: reader::Refusal) -> u64 {
+    u64::from(refusal.number) + 256 * refusal.position
+}
+
+/// 15 where the values need more than the places.
+pub(crate) fn within<T>(expected: Result<Vec<T>, reader::Refusal>, places: usize) -> Result<Vec<T>, reader::Refusal> {
+    match expected {
+        Ok(values) if values.len() > places => Err(reader::Refusal { number: 15, position: 0 }),
+        other => other,
+    }
+}
+
+/// What a buffer of so many old elements holds after an answer: the values at its start, or all as it was.
+pub(crate) fn after<T: Copy>(old: T, places: usize, values: &[T]) -> Vec<T> {
+    let mut contents = vec![old; places];
+    contents[..values.len()].copy_from_slice(values);
+    contents
+}
+
+/// The reader's refusal number, where the library returned the same code.
+pub(crate) fn same_code<T>(expected: &Result<T, reader::Refusal>, got: u64) -> Result<u32, Difference> {
+    let refusal = expected.as_ref().err();
+    let wanted = refusal.map_or(0, |refusal| code(*refusal));
+    if wanted != got {
+        let tell = |code: u64| format!("{code} (refusal {} at {})", code % 256, code / 256);
+        return Err(Difference { what: "the code returned".to_string(), reader: tell(wanted), library: tell(got) });
+    }
+    Ok(refusal.map_or(0, |refusal| refusal.number))
+}
+
+/// Whether a lent buffer and its guards hold what they are to hold.
+pub(crate) fn same<T: Copy + Same + Debug>(what: &str, lent: &Guarded<T>, wanted: &[T]) -> Result<(), Difference> {
+    if lent.holds(wanted) {
+        return Ok(());
+    }
+    let at = lent.contents().iter().zip(wanted).position(|(a, b)| !a.same(b));
+    let tell = |values: &[T]| match at {
+        Some(at) => format!("{:?} at {at}", values[at]),
+        None => "a guard".to_string(),
+    };
+    Err(Difference { what: what.to_string(), reader: tell(wanted), library: tell(lent.contents()) })
+}
+
+/// Lends the library a buffer of old elements and compares the code and the buffer with what the reader expects.
+fn fill<T: Copy + Same + Debug>(
+    expected: Result<Vec<T>, reader::Refusal>,
+    places: usize,
+    old: T,
+    call: impl FnOnce(&mut [T]) -> u64,
+) -> Result<u32, Difference> {
+    let expected = within(expected, places);
+    let mut out = Guarded::new(&vec![old; places], old);
+    let got = call(out.lent());
+    let number = same_code(&expected, got)?;
+    same("the buffer lent", &out, &after(old, places, expected.as_deref().unwrap_or(&[])))?;
+    Ok(number)
+}
+
+// ---- the values of answers, as the table of the boundary names them
+
+pub(crate) fn header_numbers(header: &reader::Header) -> [u64; 9] {
+    let bytes = [header.version, header.disk, header.revolutions, header.start, header.end, header.flags, header.width, header.heads];
+    let [a, b, c, d, e, f, g, h] = bytes.map(u64::from);
+    [a, b, c, d, e, f, g, h, u64::from(header.checksum)]
+}
+
+pub(crate) fn footer_numbers(footer: &Option<reader::Footer>) -> [u64; 13] {
+    let Some(footer) = footer else { return [0; 13] };
+    let [a, b, c, d, e, f] = footer.offsets.map(u64::from);
+    let [s, h, w, v] = footer.versions.map(u64::from);
+    [1, a, b, c, d, e, f, footer.created as u64, footer.modified as u64, s, h, w, v]
+}
+
+pub(crate) fn track_numbers(track: &reader::Track) -> [u64; 4] {
+    [track.cylinder.into(), track.head.into(), track.place, track.revolutions.into()]
+}
+
+pub(crate) fn revolution_numbers(revolution: &reader::Revolution) -> [u64; 3] {
+    [revolution.duration.into(), revolution.words.into(), revolution.place]
+}
+
+// ---- calls with several buffers
+
+/// A rewrite: the code, and every byte of the image and of the words.
+fn rewrite(bytes: &[u8], track: u32, revolution: u32, duration: u32, words: &[u8]) -> Result<u32, Difference> {
+    let mut wanted = bytes.to_vec();
+    let expected = reader::rewrite(&mut wanted, track, revolution, duration, words);
+    let mut image = Guarded::new(bytes, BYTE);
+    let lent_words = Guarded::new(words, BYTE);
+    let got = raw::rewrite(image.lent(), track, revolution, duration, lent_words.contents());
+    let number = same_code(&expected, got)?;
+    same("the image", &image, &wanted)?;
+    same("the words", &lent_words, words)?;
+    Ok(number)
+}
+
+/// Bulk reading: 15 where either buffer is too short, and then neither is changed.
+fn intervals(flux: &[u8], times: usize, places: usize) -> Result<u32, Difference> {
+    let expected = reader::intervals(flux, times)
+        .and_then(|(found, open)| within(Ok(vec![found.len() as u64, open]), places).map(|values| (found, values)));
+    let lent_flux = Guarded::new(flux, BYTE);
+    let mut lent_times = Guarded::new(&vec![NUMBER; times], NUMBER);
+    let mut out = Guarded::new(&vec![NUMBER; places], NUMBER);
+    let got = raw::intervals(lent_flux.contents(), lent_times.lent(), out.lent());
+    let number = same_code(&expected, got)?;
+    let (found, values) = expected.unwrap_or_default();
+    same("the times", &lent_times, &after(NUMBER, times, &found))?;
+    same("the buffer lent", &out, &after(NUMBER, places, &values))?;
+    same("the flux", &lent_flux, flux)?;
+    Ok(number)
+}
+
+/// Making words: 16, then 15 where either buffer is too short, and then neither is changed.
+fn words(times: &[u64], room: usize, places: usize) -> Result<u32, Difference> {
+    let expected = reader::words(times, room).and_then(|bytes| within(Ok(vec![bytes.len() as u64]), places).map(|values| (bytes, values)));
+    let lent_times = Guarded::new(times, NUMBER);
+    let mut lent_words = Guarded::new(&vec![BYTE; room], BYTE);
+    let mut out = Guarded::new(&vec![NUMBER; places], NUMBER);
+    let got = raw::words(lent_times.contents(), lent_words.lent(), out.lent());
+    let number = same_code(&expected, got)?;
+    let (bytes, values) = expected.unwrap_or_default();
+    same("the words", &lent_words, &after(BYTE, room, &bytes))?;
+    same("the buffer lent", &out, &after(NUMBER, places, &values))?;
+    same("the times", &lent_times, times)?;
+    Ok(number)
+}

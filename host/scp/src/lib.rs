@@ -1,0 +1,347 @@
+//! SuperCard Pro (SCP) floppy flux images, revision 1.6, by the proved library.
+//!
+//! Every call on an image takes its bytes and opens it anew; it answers for every image and every argument. A [`Refusal`] has one of 18
+//! numbers and a position, and then every lent buffer holds what it held. Nothing here copies an image.
+//!
+//! ```
+//! # let image = scp::example::image_a();
+//! scp::validate(&image)?;
+//! let revolution = scp::revolution(&image, 0, 0)?;
+//! assert_eq!((revolution.duration, revolution.words, revolution.place), (8_000_000, 4, 704));
+//! assert_eq!(scp::speed(&image, 0, 0)?, Some(300.0));
+//!
+//! let (intervals, open) = scp::all_intervals(scp::flux(&image, 0, 0)?)?;
+//! assert_eq!((intervals, open), (vec![160, 65_537, 240], 0)); // a zero word is 65,536 ticks
+//! # Ok::<(), scp::Refusal>(())
+//! ```
+#![deny(unsafe_code)]
+#![warn(missing_docs)]
+
+pub mod example;
+#[allow(unsafe_code)]
+pub mod raw;
+mod refusal;
+mod replay;
+
+pub use refusal::{Reason, Refusal};
+pub use replay::{replay, Answer, Call};
+
+/// The fields of the header.
+#[derive(Clone, Copy, Debug, PartialEq, Eq)]
+pub struct Header {
+    /// The version byte, any.
+    pub version: u8,
+    /// The disk type, any.
+    pub disk: u8,
+    /// Revolutions per track, 1 to 5.
+    pub revolutions: u8,
+    /// The first track.
+    pub start: u8,
+    /// The last track, included.
+    pub end: u8,
+    /// Bits: 0 index, 1 TPI, 2 RPM, 3 type, 4 read/write, 5 footer.
+    pub flags: u8,
+    /// The word width: 0 or 16, both for 16 bits.
+    pub width: u8,
+    /// 0 both heads, 1 side 0, 2 side 1.
+    pub heads: u8,
+    /// The stored checksum.
+    pub checksum: u32,
+}
+
+impl Header {
+    /// Whether the image is marked read/write (FLAGS bit 4): its checksum is then 0.
+    pub fn is_read_write(&self) -> bool {
+        self.flags & 0x10 != 0
+    }
+}
+
+/// The numbers of the footer.
+#[derive(Clone, Copy, Debug, PartialEq, Eq)]
+pub struct Footer {
+    /// File offsets of maker, model, serial, creator, application and comments; 0 is absent.
+    pub strings: [u32; 6],
+    /// Seconds from 1970.
+    pub created: i64,
+    /// Seconds from 1970.
+    pub modified: i64,
+    /// Versions of software, hardware, firmware and format, a nibble each side of the point.
+    pub versions: [u8; 4],
+}
+
+/// A track of the image.
+#[derive(Clone, Copy, Debug, PartialEq, Eq)]
+pub struct Track {
+    /// The track's number / 2.
+    pub cylinder: u32,
+    /// The track's number's remainder by 2.
+    pub head: u32,
+    /// The file offset of its header.
+    pub place: u64,
+    /// How many revolutions it has.
+    pub revolutions: u32,
+}
+
+/// A revolution of a track.
+#[derive(Clone, Copy, Debug, PartialEq, Eq)]
+pub struct Revolution {
+    /// Ticks of 25 ns from index to index.
+    pub duration: u32,
+    /// How many flux words it has.
+    pub words: u32,
+    /// The file offset of its flux.
+    pub place: u64,
+}
+
+/// The slowest and the fastest speed of a track, in rpm.
+#[derive(Clone, Copy, Debug, PartialEq)]
+pub struct TrackSpeeds {
+    /// From the longest duration.
+    pub slowest: f64,
+    /// From the shortest duration that is not 0.
+    pub fastest: f64,
+}
+
+/// A step over flux words.
+#[derive(Clone, Copy, Debug, PartialEq, Eq)]
+pub enum Step {
+    /// An interval in ticks, and the word to go on from.
+    Interval {
+        /// Its length.
+        ticks: u64,
+        /// The number of the word after its closing word.
+        next: u64,
+    },
+    /// No closing word is left: the open time in ticks.
+    Open {
+        /// 65,536 ticks for each zero word that is left.
+        ticks: u64,
+    },
+}
+
+/// Whether the image obeys the text: refusals 1 to 12.
+///
+/// ```
+/// let mut image = scp::example::image_a();
+/// assert_eq!(scp::validate(&image), Ok(()));
+/// image[12] += 1;
+/// assert_eq!(scp::validate(&image).unwrap_err().reason, scp::Reason::Sum);
+/// assert_eq!(scp::validate(&[]).unwrap_err().reason.number(), 1);
+/// ```
+pub fn validate(image: &[u8]) -> Result<(), Refusal> {
+    Refusal::of_code(raw::validate(image))
+}
+
+/// The header's fields.
+///
+/// ```
+/// let header = scp::header(&scp::example::image_a())?;
+/// assert_eq!((header.version, header.revolutions, header.checksum), (0x16, 1, 980));
+/// # Ok::<(), scp::Refusal>(())
+/// ```
+pub fn header(image: &[u8]) -> Result<Header, Refusal> {
+    let mut out = [0; 9];
+    Refusal::of_code(raw::header(image, &mut out))?;
+    Ok(Header::of_numbers(out))
+}
+
+impl Header {
+    fn of_numbers(out: [u64; 9]) -> Header {
+        let [version, disk, revolutions, start, end, flags, width, heads] = std::array::from_fn(|i| out[i] as u8);
+        Header { version, disk, revolutions, start, end, flags, width, heads, checksum: out[8] as u32 }
+    }
+}
+
+/// The footer, or that there is none.
+///
+/// ```
+/// assert_eq!(scp::footer(&scp::example::image_a()), Ok(None));
+/// ```
+pub fn footer(image: &[u8]) -> Result<Option<Footer>, Refusal> {
+    let mut out = [0; 13];
+    Refusal::of_code(raw::footer(image, &mut out))?;
+    Ok(Footer::of_numbers(&out))
+}
+
+impl Footer {
+    /// A footer of 13 numbers, of which the first says whether it is there.
+    fn of_numbers(out: &[u64; 13]) -> Option<Footer> {
+        (out[0] == 1).then(|| Footer {
+            strings: std::array::from_fn(|i| out[1 + i] as u32),
+            created: out[7] as i64,
+            modified: out[8] as i64,
+            versions: std::array::from_fn(|i| out[9 + i] as u8),
+        })
+    }
+}
+
+/// The bytes of the string at a file offset that the [`footer`] of the same image gave; nothing where no whole string is.
+///
+/// ```
+/// let image = [2, 0, b'h', b'i', 0];
+/// assert_eq!(scp::string(&image, 0), None); // 0 is absent
+/// assert_eq!(scp::string(&[b"-", &image[..]].concat(), 1), Some(&b"hi"[..]));
+/// ```
+pub fn string(image: &[u8], offset: u32) -> Option<&[u8]> {
+    if offset == 0 {
+        return None;
+    }
+    let rest = image.get(offset as usize..)?;
+    let size = u16::from_le_bytes([*rest.first()?, *rest.get(1)?]);
+    rest.get(2..2 + usize::from(size))
+}
+
+/// A track.
+///
+/// ```
+/// let track = scp::track(&scp::example::image_a(), 0)?;
+/// assert_eq!((track.cylinder, track.head, track.place, track.revolutions), (0, 0, 0x2B0, 1));
+/// assert_eq!(scp::track(&scp::example::image_a(), 1).unwrap_err().reason, scp::Reason::Absent);
+/// # Ok::<(), scp::Refusal>(())
+/// ```
+pub fn track(image: &[u8], track: u32) -> Result<Track, Refusal> {
+    let mut out = [0; 4];
+    Refusal::of_code(raw::track(image, track, &mut out))?;
+    Ok(Track::of_numbers(out))
+}
+
+impl Track {
+    fn of_numbers([cylinder, head, place, revolutions]: [u64; 4]) -> Track {
+        Track { cylinder: cylinder as u32, head: head as u32, place, revolutions: revolutions as u32 }
+    }
+}
+
+/// A revolution of a track.
+///
+/// ```
+/// let refusal = scp::revolution(&scp::example::image_a(), 0, 1).unwrap_err();
+/// assert_eq!(refusal.to_string(), "refused 14 (Revolution) at 0: the revolution asked for is not in the image");
+/// ```
+pub fn revolution(image: &[u8], track: u32, revolution: u32) -> Result<Revolution, Refusal> {
+    let mut out = [0; 3];
+    Refusal::of_code(raw::revolution(image, track, revolution, &mut out))?;
+    Ok(Revolution::of_numbers(out))
+}
+
+impl Revolution {
+    fn of_numbers([duration, words, place]: [u64; 3]) -> Revolution {
+        Revolution { duration: duration as u32, words: words as u32, place }
+    }
+}
+
+/// The flux of a revolution, as that part of the image.
+///
+/// ```
+/// assert_eq!(scp::flux(&scp::example::image_a(), 0, 0)?, [0x00, 0xA0, 0x00, 0x00, 0x00, 0x01, 0x00, 0xF0]);
+/// # Ok::<(), scp::Refusal>(())
+/// ```
+pub fn flux(image: &[u8], track: u32, revolution: u32) -> Result<&[u8], Refusal> {
+    let found = self::revolution(image, track, revolution)?;
+    let start = found.place as usize;
+    Ok(&image[start..start + 2 * found.words as usize])
+}
+
+/// Copies the flux of a revolution to the start of `out`, and says how many bytes it has.
+///
+/// ```
+/// let mut out = [7; 9];
+/// assert_eq!(scp::copy_flux(&scp::example::image_a(), 0, 0, &mut out)?, 8);
+/// assert_eq!(out, [0x00, 0xA0, 0x00, 0x00, 0x00, 0x01, 0x00, 0xF0, 7]);
+/// # Ok::<(), scp::Refusal>(())
+/// ```
+pub fn copy_flux(image: &[u8], track: u32, revolution: u32, out: &mut [u8]) -> Result<usize, Refusal> {
+    Refusal::of_code(raw::flux(image, track, revolution, out))?;
+    Ok(2 * self::revolution(image, track, revolution)?.words as usize)
+}
+
+/// The drive speed of a revolution in rpm, or none for duration 0.
+///
+/// ```
+/// assert_eq!(scp::speed(&scp::example::image_a(), 0, 0), Ok(Some(300.0)));
+/// ```
+pub fn speed(image: &[u8], track: u32, revolution: u32) -> Result<Option<f64>, Refusal> {
+    let mut out = [0.0; 2];
+    Refusal::of_code(raw::speed(image, track, revolution, &mut out))?;
+    Ok((out[0] == 1.0).then_some(out[1]))
+}
+
+/// The slowest and the fastest speed of a track, or none if all its durations are 0.
+///
+/// ```
+/// let speeds = scp::track_speed(&scp::example::image_a(), 0)?.expect("its duration is not 0");
+/// assert_eq!((speeds.slowest, speeds.fastest), (300.0, 300.0));
+/// # Ok::<(), scp::Refusal>(())
+/// ```
+pub fn track_speed(image: &[u8], track: u32) -> Result<Option<TrackSpeeds>, Refusal> {
+    let mut out = [0.0; 3];
+    Refusal::of_code(raw::track_speed(image, track, &mut out))?;
+    Ok((out[0] == 1.0).then_some(TrackSpeeds { slowest: out[1], fastest: out[2] }))
+}
+
+/// The next interval of the flux from a word on, or the open time where no closing word is left.
+///
+/// ```
+/// use scp::Step;
+///
+/// let flux = [0x00, 0x00, 0x00, 0x01, 0x00, 0x00];
+/// assert_eq!(scp::step(&flux, 0), Ok(Step::Interval { ticks: 65_537, next: 2 }));
+/// assert_eq!(scp::step(&flux, 2), Ok(Step::Open { ticks: 65_536 }));
+/// assert_eq!(scp::step(&flux, 3), Ok(Step::Open { ticks: 0 }));
+/// ```
+pub fn step(flux: &[u8], word: u64) -> Result<Step, Refusal> {
+    let mut out = [0; 3];
+    Refusal::of_code(raw::step(flux, word, &mut out))?;
+    Ok(match out {
+        [0, ticks, _] => Step::Open { ticks },
+        [ticks, _, next] => Step::Interval { ticks, next },
+    })
+}
+
+/// All intervals of the flux at the start of `times`; gives how many they are, and the open time.
+///
+/// ```
+/// let mut times = [9; 3];
+/// assert_eq!(scp::intervals(&[0x00, 0xA0, 0x00, 0x00, 0x00, 0x01], &mut times), Ok((2, 0)));
+/// assert_eq!(times, [160, 65_537, 9]);
+/// ```
+pub fn intervals(flux: &[u8], times: &mut [u64]) -> Result<(usize, u64), Refusal> {
+    let mut out = [0; 2];
+    Refusal::of_code(raw::intervals(flux, times, &mut out))?;
+    Ok((out[0] as usize, out[1]))
+}
+
+/// All intervals of the flux, and the open time.
+pub fn all_intervals(flux: &[u8]) -> Result<(Vec<u64>, u64), Refusal> {
+    let mut times = vec![0; flux.len() / 2];
+    let (count, open) = intervals(flux, &mut times)?;
+    times.truncate(count);
+    Ok((times, open))
+}
+
+/// The words of the times, as bytes at the start of `words`; gives how many bytes they are.
+///
+/// ```
+/// let mut words = [9; 6];
+/// assert_eq!(scp::words(&[65_537], &mut words), Ok(4));
+/// assert_eq!(words, [0, 0, 0, 1, 9, 9]);
+/// let refusal = scp::words(&[160, 65_536], &mut words).unwrap_err();
+/// assert_eq!((refusal.reason, refusal.position), (scp::Reason::Time, 1));
+/// ```
+pub fn words(times: &[u64], words: &mut [u8]) -> Result<usize, Refusal> {
+    let mut out = [0; 1];
+    Refusal::of_code(raw::words(times, words, &mut out))?;
+    Ok(out[0] as usize)
+}
+
+/// Puts a new duration and new words into a revolution, at most as many as it has; the checksum moves by the change alone.
+///
+/// ```
+/// let mut image = scp::example::image_a();
+/// scp::rewrite(&mut image, 0, 0, 8_000_000, &[0x01, 0x40, 0x00, 0x00, 0x00, 0x01, 0x00, 0xF0])?;
+/// assert_eq!(scp::header(&image)?.checksum, 885);
+/// assert_eq!(scp::validate(&image), Ok(()));
+/// # Ok::<(), scp::Refusal>(())
+/// ```
+pub fn rewrite(image: &mut [u8], track: u32, revolution: u32, duration: u32, words: &[u8]) -> Result<(), Refusal> {
+    Refusal::of_code(raw::rewrite(image, track, revolution, duration, words))
+}

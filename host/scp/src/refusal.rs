@@ -1,0 +1,158 @@
+//! Refusals: a reason with its number, and a position.
+
+use std::fmt;
+
+/// Why a call is refused. The number of a reason is its discriminant, 1 to 18.
+#[derive(Clone, Copy, Debug, PartialEq, Eq, Hash)]
+#[repr(u8)]
+pub enum Reason {
+    /// The image's length.
+    Size = 1,
+    /// No "SCP" at the start.
+    Sign,
+    /// The word width.
+    Width,
+    /// The number of revolutions per track.
+    Revolutions,
+    /// Start and end track.
+    Span,
+    /// The heads byte.
+    Heads,
+    /// The footer.
+    Footer,
+    /// A string of the footer; the position is its number, 0 to 5.
+    String,
+    /// An entry of the table; the position is the track.
+    Slot,
+    /// A track data header; the position is the track.
+    Track,
+    /// A revolution's flux; the position is the track.
+    Flux,
+    /// The checksum.
+    Sum,
+    /// The track asked for.
+    Absent,
+    /// The revolution asked for.
+    Revolution,
+    /// The places lent for the answer.
+    Places,
+    /// A time that no words express; the position is its index.
+    Time,
+    /// The flux given.
+    Words,
+    /// A byte claimed twice.
+    Shared,
+}
+
+impl Reason {
+    /// All reasons, by number.
+    pub const ALL: [Reason; 18] = [
+        Reason::Size,
+        Reason::Sign,
+        Reason::Width,
+        Reason::Revolutions,
+        Reason::Span,
+        Reason::Heads,
+        Reason::Footer,
+        Reason::String,
+        Reason::Slot,
+        Reason::Track,
+        Reason::Flux,
+        Reason::Sum,
+        Reason::Absent,
+        Reason::Revolution,
+        Reason::Places,
+        Reason::Time,
+        Reason::Words,
+        Reason::Shared,
+    ];
+
+    /// The number of the reason, 1 to 18.
+    pub fn number(self) -> u8 {
+        self as u8
+    }
+
+    /// The reason of a number.
+    pub fn of_number(number: u64) -> Option<Reason> {
+        Reason::ALL.into_iter().find(|reason| u64::from(reason.number()) == number)
+    }
+
+    /// What the reason means, in a line.
+    pub fn meaning(self) -> &'static str {
+        match self {
+            Reason::Size => "the image is shorter than 688 bytes or longer than 268,435,456",
+            Reason::Sign => "the image does not start with \"SCP\"",
+            Reason::Width => "the word width is neither 0 nor 16",
+            Reason::Revolutions => "the number of revolutions is not 1 to 5, or not 1 on a read/write image",
+            Reason::Span => "the start track is above the end track, or the end track above 167",
+            Reason::Heads => "the heads byte is above 2",
+            Reason::Footer => "the footer is flagged, but too short, without \"FPCS\" or older than 0x16",
+            Reason::String => "a string of the footer is misplaced or malformed",
+            Reason::Slot => "a track lies outside start to end, or on a side that the image does not hold",
+            Reason::Track => "a track data header is misplaced, without \"TRK\" or with another number",
+            Reason::Flux => "the flux of a revolution runs past the end",
+            Reason::Sum => "the stored checksum is not the one that the bytes have",
+            Reason::Absent => "the track asked for is not in the image",
+            Reason::Revolution => "the revolution asked for is not in the image",
+            Reason::Places => "the answer needs more places than were lent",
+            Reason::Time => "a time cannot be expressed: 0, a multiple of 65,536, or above 4,294,967,295",
+            Reason::Words => "the flux has an odd number of bytes, is too long, or has more words than the revolution",
+            Reason::Shared => "a byte that the rewrite stands on is claimed by something else too",
+        }
+    }
+
+    /// What the position of such a refusal counts, or nothing where it is always 0.
+    pub fn position_counts(self) -> Option<&'static str> {
+        match self {
+            Reason::String => Some("string"),
+            Reason::Slot | Reason::Track | Reason::Flux => Some("track"),
+            Reason::Time => Some("time"),
+            _ => None,
+        }
+    }
+}
+
+/// A refusal: why, and where (a string, track or time number; 0 for the other reasons).
+#[derive(Clone, Copy, Debug, PartialEq, Eq, Hash)]
+pub struct Refusal {
+    /// Why.
+    pub reason: Reason,
+    /// Where.
+    pub position: u64,
+}
+
+impl Refusal {
+    /// What a code of the archive says: nothing for 0, else its lowest byte is the number, the bits above it the position.
+    ///
+    /// ```
+    /// use scp::{Reason, Refusal};
+    ///
+    /// assert_eq!(Refusal::of_code(0), Ok(()));
+    /// assert_eq!(Refusal::of_code(10 + 256 * 3), Err(Refusal { reason: Reason::Track, position: 3 }));
+    /// ```
+    pub fn of_code(code: u64) -> Result<(), Refusal> {
+        Refusal::of_pair(code % 256, code / 256)
+    }
+
+    /// What a number and a position say: nothing for number 0. The archive gives no number above 18.
+    pub(crate) fn of_pair(number: u64, position: u64) -> Result<(), Refusal> {
+        match (number, Reason::of_number(number)) {
+            (0, _) => Ok(()),
+            (_, Some(reason)) => Err(Refusal { reason, position }),
+            (_, None) => unreachable!("the archive gave a refusal of number {number}"),
+        }
+    }
+}
+
+impl fmt::Display for Refusal {
+    fn fmt(&self, f: &mut fmt::Formatter<'_>) -> fmt::Result {
+        let (number, reason) = (self.reason.number(), self.reason);
+        write!(f, "refused {number} ({reason:?}) at {}: {}", self.position, reason.meaning())?;
+        match reason.position_counts() {
+            Some(kind) => write!(f, " ({kind} {})", self.position),
+            None => Ok(()),
+        }
+    }
+}
+
+impl std::error::Error for Refusal {}
