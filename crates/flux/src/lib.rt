@@ -60,10 +60,10 @@ pub enum Written {
     Refused(Refusal),
 }
 
-fn wide(x: u8) -> u64
+fn wide(x: u8) -> u16
     ensures { λ r. ⌜ (r ≡ x) × (r < 256) ⌝ }
 {
-    x as u64
+    x as u16
 }
 
 // Whether flux of n bytes is refused.
@@ -74,7 +74,7 @@ fn bad_flux_size(n: usize) -> bool
 }
 
 // The word of number i.
-fn word_at(flux: &[u8], i: usize) -> u64
+fn word_at(flux: &[u8], i: usize) -> u16
     requires { ⌜ 2 * i + 1 < length (now flux) ⌝ }
     ensures { λ r. ⌜ (r ≡ be16At (now (flux .entry)) (2 * i)) × (r < 65_536) ⌝ }
 {
@@ -104,7 +104,7 @@ impl Cursor {
             let w = word_at(flux, i);
             i += 1;
             if w != 0 {
-                let interval = ticks + w;
+                let interval = ticks + w as u64;
                 return Step::Interval {
                     ticks: interval,
                     open: 0,
@@ -164,7 +164,7 @@ fn fill(flux: &[u8], times: &mut [u64]) -> Filled
         if w == 0 {
             pending += ZERO_TICKS;
         } else {
-            times[n] = pending + w;
+            times[n] = pending + w as u64;
             n += 1;
             pending = 0;
         }

@@ -1,7 +1,7 @@
 -- What an accepted rewrite is known to hold: it is accepted where each test that could refuse it fails, and each failed test is a fact.
 use Prim.Native.Nat.{ℕ, _*_, _%_, _≤_, _<_}
 use mathlib.Core.Path.{_≡_, refl, sym, ap, _∙_}
-use mathlib.Core.Logic.{_↔_, inl, inr}
+use mathlib.Core.Logic.{_↔_, _≢_, inl, inr}
 use mathlib.Core.List.{List}
 use mathlib.Core.Bool.{Bool, true, false, true≢false}
 use native.Mathlib.Omega.{arith}
@@ -22,7 +22,14 @@ use Rattle.scp_rewrite.specs.Extents.{extent, In}
 use Rattle.scp_rewrite.specs.Claims.{standAt, shared}
 use Rattle.scp_rewrite.specs.Rewriting.{badWords, wordsThenShared, rewriteFault}
 use Rattle.scp_rewrite.specs.Sharing.{Present, InNumbers, Claimed, ClaimedTwice, byOthers}
+use Rattle.scp_rewrite.specs.Steps.{Inside}
 use Rattle.scp_rewrite.proofs.SharedBytes.{shared-exactly}
+
+-- ---- an image that opens
+
+-- The header of each track that is there ends at or below E, so inside the image.
+pub headers-inside : {b : List ℕ} → Opens b → (u : ℕ) → u < trackSlots → trackEntry b u ≢ 0 → Inside b (trackEntry b u)
+headers-inside o u h n = let below = o .tracks u h n .below in omega arith
 
 -- ---- a revolution that can be asked for
 

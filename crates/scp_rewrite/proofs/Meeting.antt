@@ -2,10 +2,10 @@
 use Prim.Native.Nat.{ℕ, _+_, max}
 use mathlib.Core.Path.{_≡_}
 use mathlib.Core.Logic.{_↔_, _⊎_, inl, inr}
-use mathlib.Core.Bool.{true, _&&_, or-true, and-eq-true-iff}
+use mathlib.Core.Bool.{true, false, _&&_, or-true, and-false, and-eq-true-iff}
 use native.Mathlib.Omega.{arith}
 use lib.Dec.{ltb}
-use borrow.Author.Tests.{ltb-true, lt-ltb}
+use borrow.Author.Tests.{ltb-true, lt-ltb, le-ltb}
 use Rattle.scp_header.proofs.Finding.{either}
 use Rattle.scp_rewrite.specs.Extents.{meets, In}
 use Rattle.scp_rewrite.specs.Claims.{hit}
@@ -22,6 +22,10 @@ module _ (x y : Extent) where
         lt-ltb 0 (x .size) (omega arith),
         lt-ltb 0 (y .size) (omega arith),
       )
+
+  pub meets-empty : y .size ≡ 0 → meets x y ≡ false
+  unfolding meets
+  meets-empty e = simp (le-ltb 0 (y .size) (omega arith), and-false)
 
   pub meets-byte : meets x y ≡ true → (i : ℕ) × In i x × In i y
   unfolding meets
@@ -43,6 +47,10 @@ module _ (s : Stand) (x : Extent) where
   unfolding hit
   hit-true i (inl p) q = simp (meets-true (s .numbers) x i p q)
   hit-true i (inr p) q = simp (meets-true (s .flux) x i p q, or-true)
+
+  pub hit-empty : x .size ≡ 0 → hit s x ≡ false
+  unfolding hit
+  hit-empty e = simp (meets-empty (s .numbers) x e, meets-empty (s .flux) x e)
 
   pub hit-byte : hit s x ≡ true → (i : ℕ) × On s i × In i x
   unfolding hit

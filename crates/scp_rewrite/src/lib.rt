@@ -1,6 +1,7 @@
 // Rewriting one revolution of a SuperCard Pro image: the sharing test and the stores. A rewrite opens the image anew, takes nobody's word,
 // and works on its own bytes and one walk over the claims.
 ghost use mathlib.Core.Path.{_≡_};
+ghost use mathlib.Core.Logic.{_≢_};
 ghost use Prim.Native.Nat.{_+_, _<_, _≤_};
 ghost use lib.ListN.{length};
 ghost use lib.Seq.{sets};
@@ -9,12 +10,12 @@ ghost use Rattle.scp_header.specs.Refusals.{none, refusal};
 ghost use Rattle.scp_header.specs.Search.{anyFrom};
 ghost use Rattle.scp_header.specs.Header.{tableEnd, trackSlots, revolutions, storedSum, entries};
 ghost use Rattle.scp_header.specs.Footer.{stringSlots};
-ghost use Rattle.scp_open.specs.Tracks.{countAt};
+ghost use Rattle.scp_open.specs.Tracks.{revolutionAt, countAt};
 ghost use Rattle.scp_rewrite.specs.Extents.{meets};
 ghost use Rattle.scp_rewrite.specs.Claims.{fluxExtent, standAt, hit, fluxHit, headerHit, trackHit, trackHitAt, stringHit, stringHitAt, footerHit, shared};
 ghost use Rattle.scp_rewrite.specs.Rewriting.{badWords, wordsThenShared, rewriteFault, patched, movedSum, summed, afterRewrite};
 ghost use Rattle.scp_rewrite.specs.Answering.{ofRewritten, rewriteAnswer};
-ghost use Rattle.scp_rewrite.specs.Steps.{Small, Placed, Walkable, Patchable, Stored};
+ghost use Rattle.scp_rewrite.specs.Steps.{Small, Placed, Inside, Walkable, Patchable, Stored};
 use flux::Refusal;
 use scp_open::Revolution;
 
@@ -104,6 +105,17 @@ fn number32(image: &[u8], at: usize) -> usize
     octets::le32(image, at) as usize
 }
 
+// The 32-bit number at an offset, where its four bytes are all there.
+fn inner32(image: &[u8], at: usize) -> usize
+    requires { ⌜ at + 4 ≤ length (now image) ⌝ }
+    ensures { λ r. ⌜ (r ≡ le32At (now (image .entry)) at) × (r < 4_294_967_296) ⌝ }
+{
+    wide(image[at])
+        + 256 * wide(image[at + 1])
+        + 65_536 * wide(image[at + 2])
+        + 16_777_216 * wide(image[at + 3])
+}
+
 // ---- the sharing test
 
 // Whether two extents have a byte in common.
@@ -111,7 +123,13 @@ fn meet(x: Extent, y: Extent) -> bool
     requires { ⌜ Small x × Small y ⌝ }
     ensures { λ r. ⌜ r ≡ meets x y ⌝ }
 {
-    ((x.start < y.start + y.size) & (y.start < x.start + x.size)) & ((0 < x.size) & (0 < y.size))
+    if y.start + y.size <= x.start {
+        return false;
+    }
+    if x.start + x.size <= y.start {
+        return false;
+    }
+    (0 < x.size) & (0 < y.size)
 }
 
 // Whether an extent has a byte that the rewrite stands on.
@@ -119,19 +137,25 @@ fn hits(s: Stand, x: Extent) -> bool
     requires { ⌜ Placed s × Small x ⌝ }
     ensures { λ r. ⌜ r ≡ hit s x ⌝ }
 {
+    if x.size == 0 {
+        return false;
+    }
     let numbers = s.numbers;
     let flux = s.flux;
-    meet(numbers, x) | meet(flux, x)
+    if meet(numbers, x) {
+        return true;
+    }
+    meet(flux, x)
 }
 
 // The flux of revolution j of the track header at e.
 fn flux_extent(image: &[u8], e: usize, j: usize) -> Extent
-    requires { ⌜ (e < 4_294_967_296) × (j < 256) ⌝ }
+    requires { ⌜ (e < 4_294_967_296) × (revolutionAt e j + 12 ≤ length (now image)) ⌝ }
     ensures { λ r. ⌜ (r ≡ fluxExtent (now (image .entry)) e j) × Small r ⌝ }
 {
     let at = e + 4 + 12 * j;
-    let count = number32(image, at + 4);
-    let distance = number32(image, at + 8);
+    let count = inner32(image, at + 4);
+    let distance = inner32(image, at + 8);
     Extent {
         start: e + distance,
         size: 2 * count,
@@ -140,15 +164,18 @@ fn flux_extent(image: &[u8], e: usize, j: usize) -> Extent
 
 // Whether the flux of revolution j of track u, whose header is at e, is hit; never the rewrite's own.
 fn flux_hit(image: &[u8], s: Stand, t: usize, k: usize, u: usize, e: usize, j: usize) -> bool
-    requires { ⌜ Placed s × (e < 4_294_967_296) × (j < 256) ⌝ }
+    requires { ⌜ Placed s × (e < 4_294_967_296) × (revolutionAt e j + 12 ≤ length (now image)) ⌝ }
     ensures { λ r. ⌜ r ≡ fluxHit (now (image .entry)) s t k u e j ⌝ }
 {
-    !((u == t) & (j == k)) & hits(s, flux_extent(image, e, j))
+    if hits(s, flux_extent(image, e, j)) {
+        return !((u == t) & (j == k));
+    }
+    false
 }
 
 // Whether the flux of a revolution of track u, whose header is at e, is hit.
 fn fluxes_hit(image: &[u8], s: Stand, t: usize, k: usize, u: usize, e: usize) -> bool
-    requires { ⌜ Walkable (now image) k × Placed s × (e < 4_294_967_296) ⌝ }
+    requires { ⌜ Walkable (now image) k × Placed s × Inside (now image) e ⌝ }
     ensures { λ r. ⌜ r ≡ anyFrom (fluxHit (now (image .entry)) s t k u e) 0 (revolutions (now (image .entry))) ⌝ }
 {
     let n = wide(image[REVOLUTIONS]);
@@ -190,14 +217,17 @@ fn header_hit(image: &[u8], s: Stand, t: usize, k: usize, u: usize, e: usize) ->
 
 // Whether track u, by its entry of the table, is hit.
 fn track_hit(image: &[u8], s: Stand, t: usize, k: usize, u: usize, entry: u32) -> bool
-    requires { ⌜ Walkable (now image) k × Placed s ⌝ }
+    requires { ⌜ Walkable (now image) k × Placed s × (entry ≢ 0 → Inside (now image) entry) ⌝ }
     ensures { λ r. ⌜ r ≡ trackHit (now (image .entry)) s t k u entry ⌝ }
 {
     if entry == 0 {
         return false;
     }
     let e = entry as usize;
-    header_hit(image, s, t, k, u, e) | fluxes_hit(image, s, t, k, u, e)
+    if header_hit(image, s, t, k, u, e) {
+        return true;
+    }
+    fluxes_hit(image, s, t, k, u, e)
 }
 
 // Whether a track of the table is hit.
@@ -279,7 +309,7 @@ fn is_shared(image: &[u8], s: Stand, t: usize, k: usize, table: &[u32; 168]) -> 
 
 // What a rewrite of revolution k of the track header at e stands on.
 fn stand_of(image: &[u8], e: usize, k: usize) -> Stand
-    requires { ⌜ (e < 4_294_967_296) × (k < 256) ⌝ }
+    requires { ⌜ Walkable (now image) k × Inside (now image) e ⌝ }
     ensures { λ r. ⌜ (r ≡ standAt (now (image .entry)) e k) × Placed r ⌝ }
 {
     let numbers = Extent {
@@ -307,7 +337,7 @@ fn words_fault(
     words: u32,
     n: usize,
 ) -> Refusal
-    requires { ⌜ Walkable (now image) k × (now table ≡ entries (now image)) × (words ≡ countAt (now image) entry k) ⌝ }
+    requires { ⌜ Walkable (now image) k × (now table ≡ entries (now image)) × (words ≡ countAt (now image) entry k) × Inside (now image) entry ⌝ }
     ensures { λ r. ⌜ r ≡ wordsThenShared (now (image .entry)) entry t k n ⌝ }
 {
     if bad_words(words, n) {

@@ -65,6 +65,9 @@ next c =
 in-times : (c : tie.Else1 Inv-loop μ-loop) → c .before .before .before .loop .n < length (c .before .before .before .loop .times)
 in-times c = below (c .before .before .before .before .before .before .pre .1) (next c)
 
+cast-times : tie.Need-cast-times Inv-loop μ-loop
+cast-times c = search needs
+
 add-times : tie.Need-add-times Inv-loop μ-loop
 add-times c = search needs
 
@@ -113,6 +116,7 @@ fill-spec =
     add-pending
     loop-less
     loop-again
+    cast-times
     add-times
     mul-times
     slice-write-times

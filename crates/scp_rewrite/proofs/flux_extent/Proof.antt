@@ -1,4 +1,4 @@
--- Count and distance are read where the definition reads them, and three numbers of 32 bits do not wrap.
+-- Count and distance are read where the definition reads them, inside the image, and three numbers of 32 bits do not wrap.
 use borrow.Author.Needs.{needs}
 use Rattle.scp_rewrite.proofs.flux_extent.Statement.{statement}
 use Rattle.scp_rewrite.proofs.flux_extent.Tie as tie
@@ -12,17 +12,17 @@ mul-at c = search needs
 add-at-2 : tie.Need-add-at-2
 add-at-2 c = search needs
 
-add-number32 : tie.Need-add-number32
-add-number32 c = search needs
+add-inner32 : tie.Need-add-inner32
+add-inner32 c = search needs
 
-number32-requires : tie.Need-number32-requires
-number32-requires c κs = search needs
+inner32-requires : tie.Need-inner32-requires
+inner32-requires c κs = search needs
 
-add-number32-2 : tie.Need-add-number32-2
-add-number32-2 c = search needs
+add-inner32-2 : tie.Need-add-inner32-2
+add-inner32-2 c = search needs
 
-number32-requires-2 : tie.Need-number32-requires-2
-number32-requires-2 c κs = search needs
+inner32-requires-2 : tie.Need-inner32-requires-2
+inner32-requires-2 c κs = search needs
 
 add-t7 : tie.Need-add-t7
 add-t7 c = search needs
@@ -40,10 +40,10 @@ flux-extent-spec =
     add-at
     mul-at
     add-at-2
-    add-number32
-    number32-requires
-    add-number32-2
-    number32-requires-2
+    add-inner32
+    inner32-requires
+    add-inner32-2
+    inner32-requires-2
     add-t7
     mul-t8
     returns)

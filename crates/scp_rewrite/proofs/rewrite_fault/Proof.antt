@@ -1,6 +1,6 @@
 -- Each return meets the tests before it; past them the table has the entry, and the image opens, so the walk can start.
 use Prim.Native.Nat.{ℕ}
-use mathlib.Core.Path.{sym, ap, _∙_}
+use mathlib.Core.Path.{sym, ap, subst⁻¹, _∙_}
 use mathlib.Core.Logic.{_≢_}
 use lib.ListN.{length}
 use borrow.Author.Needs.{needs}
@@ -8,7 +8,9 @@ use Rattle.flux.specs.declared.Refusal.{Refusal}
 use Rattle.scp_header.specs.Header.{trackEntry}
 use Rattle.scp_open.specs.declared.RevolutionData.{RevolutionData}
 use Rattle.scp_rewrite.specs.Rewriting.{wordsThenShared}
+use Rattle.scp_rewrite.specs.Steps.{Inside}
 use Rattle.scp_open.proofs.Opens.{opens}
+use Rattle.scp_rewrite.proofs.Accepted.{headers-inside}
 use Rattle.scp_rewrite.proofs.Refusing.{opened-refusal, opened-entries, opened-entry, was-absent, was-present, at-opening, at-high, at-none, at-absent, at-words}
 use Rattle.scp_rewrite.proofs.rewrite_fault.Statement.{statement}
 use Rattle.scp_rewrite.proofs.rewrite_fault.Tie as tie
@@ -82,14 +84,18 @@ words-fault-requires c κs =
     let at-data = c .before .before in
     let at-revolution = at-data .before .before in
     let past-entry = at-revolution .before in
-    let past-open = past-entry .before .before .before in
-    let o = past-open .before .before .before .«open» .ensures in
+    let below = past-entry .before .before in
+    let past-open = below .before in
+    let at-open = past-open .before .before .before in
+    let o = at-open .«open» .ensures in
     let z = past-open .if1 .left in
+    let b = at-open .before .before .before .args .image .now in
     let h = opens _ (ap (λ (f : Refusal). f .number) (sym (opened-refusal _ o)) ∙ z) in
     let d = was-present _ _ _ (at-revolution .revolution-at .ensures) (at-data .«data» .given .1) in (
-      record { least = h .least; most = h .most; few = h .revolutionsMost; turn = d .0 },
+      record { least = h .least; most = h .most; few = h .revolutionsMost; turn = d .0; headers = headers-inside h },
       opened-entries _ o z,
       ap (λ (x : RevolutionData). x .words) (d .1),
+      subst⁻¹ (Inside b) (opened-entry _ o z _ (below .if2 .left)) (headers-inside h _ (below .if2 .left) (present past-entry)),
     )
 
 returns-5 : tie.Need-returns-5

@@ -1,12 +1,13 @@
 -- The loop's invariant: a track hit from track u on is one of all.
 use Prim.Native.Nat.{ℕ, _-_, _≤_}
-use mathlib.Core.Path.{_≡_, sym, ap, _∙_}
+use mathlib.Core.Path.{_≡_, sym, ap, subst⁻¹, _∙_}
 use mathlib.Core.List.{List}
 use lib.ListN.{getD}
 use borrow.Author.Needs.{needs}
 use Rattle.scp_header.specs.Search.{anyFrom}
 use Rattle.scp_header.specs.Header.{trackSlots, trackEntry}
 use Rattle.scp_rewrite.specs.Claims.{trackHit, trackHitAt}
+use Rattle.scp_rewrite.specs.Steps.{Inside}
 use Rattle.scp_header.proofs.Loops.{any-here, any-next, any-end}
 use Rattle.scp_open.proofs.Table.{list-at}
 use Rattle.scp_rewrite.proofs.tracks_hit.Statement.{statement}
@@ -28,21 +29,33 @@ mul-track-hit c = search needs
 element-copy-out-track-hit : tie.Need-element-copy-out-track-hit Inv-loop μ-loop
 element-copy-out-track-hit c = search needs
 
-track-hit-requires : tie.Need-track-hit-requires Inv-loop μ-loop
-track-hit-requires c κs = search needs
-
 -- the entry that the table has is that of track u
+entry : (c : tie.After-track-hit-arg Inv-loop μ-loop) → let at-loop = c .before .before in
+    let a = at-loop .before .before .args in
+    getD (a .table .now) (at-loop .loop .u) 0 ≡ trackEntry (a .image .now) (at-loop .loop .u)
+entry c =
+    let at-loop = c .before .before in
+    let start = at-loop .before .before in
+    let u = at-loop .loop .u in
+    ap (λ (es : List ℕ). getD es u 0) (start .pre .2) ∙ list-at (trackEntry (start .args .image .now)) trackSlots u (search needs)
+
+track-hit-requires : tie.Need-track-hit-requires Inv-loop μ-loop
+track-hit-requires c κs =
+    let start = c .before .before .before .before in
+    let walk = start .pre .0 in (
+      walk,
+      start .pre .1,
+      λ n. subst⁻¹ (Inside (start .args .image .now)) (entry c) (walk .headers _ (search needs) (λ z. n (entry c ∙ z))),
+    )
+
+-- so the track that was tried is track u
 found : (c : tie.After-track-hit Inv-loop μ-loop) → let at-loop = c .before .before .before in
     let a = at-loop .before .before .args in
     trackHitAt (a .image .now) (a .s) (a .t) (a .k) (at-loop .loop .u) ≡ c .track-hit .result
 found c =
     let at-loop = c .before .before .before in
-    let start = at-loop .before .before in
-    let a = start .args in
-    let b = a .image .now in
-    let u = at-loop .loop .u in
-    let entry = ap (λ (es : List ℕ). getD es u 0) (start .pre .2) ∙ list-at (trackEntry b) trackSlots u (search needs) in
-    sym (c .track-hit .ensures ∙ ap (trackHit b (a .s) (a .t) (a .k) u) entry)
+    let a = at-loop .before .before .args in
+    sym (c .track-hit .ensures ∙ ap (trackHit (a .image .now) (a .s) (a .t) (a .k) (at-loop .loop .u)) (entry (c .before)))
 
 returns : tie.Need-returns Inv-loop μ-loop
 returns c = any-here _ (c .before .before .before .before .loop .inv .1) (search needs) (found (c .before) ∙ c .if1 .taken)

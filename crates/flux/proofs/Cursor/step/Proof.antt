@@ -38,6 +38,9 @@ word-at-requires c κs = search needs
 add-i : tie.Need-add-i Inv-loop μ-loop
 add-i c = search needs
 
+cast-interval : tie.Need-cast-interval Inv-loop μ-loop
+cast-interval c = search needs
+
 add-interval : tie.Need-add-interval Inv-loop μ-loop
 add-interval c = search needs
 
@@ -77,6 +80,7 @@ step-spec =
     loop-holds
     word-at-requires
     add-i
+    cast-interval
     add-interval
     returns-2
     add-ticks
