@@ -229,9 +229,13 @@ pub extern "C" fn scp_flux(image: &[u8], track: u32, revolution: u32, out: &mut 
     ensures { λ r. ⌜ r ≡ codeOf (within (length (now (out .entry))) (numbersOf (answer (now (image .entry)) (book.flux track revolution)))) ⌝ }
     ensures { λ _. ⌜ now (out .exit) ≡ outAfter (now (out .entry)) (within (length (now (out .entry))) (numbersOf (answer (now (image .entry)) (book.flux track revolution)))) ⌝ }
 {
+    let part = scp::flux(image, track, revolution);
+    if 0 < part.len() {
+        return give_bytes(out, part);
+    }
     let found = scp::revolution(image, track, revolution);
     match found {
-        RevolutionAnswer::Found(_) => give_bytes(out, scp::flux(image, track, revolution)),
+        RevolutionAnswer::Found(_) => 0,
         RevolutionAnswer::Refused(r) => code(r),
     }
 }
