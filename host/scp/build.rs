@@ -10,7 +10,7 @@ const ARCHIVE: &str = "libscp_c.a";
 fn main() {
     println!("cargo:rerun-if-env-changed=SCP_ARCHIVE_DIR");
     let folder = match std::env::var_os("SCP_ARCHIVE_DIR") {
-        Some(folder) => PathBuf::from(folder),
+        Some(folder) => named_archive(PathBuf::from(folder)),
         None => built_archive(),
     };
     // A copy, since `rt` removes and renews its own folder.
@@ -21,6 +21,12 @@ fn main() {
     }
     println!("cargo:rustc-link-search=native={}", out.display());
     println!("cargo:rustc-link-lib=static=scp_c");
+}
+
+/// The folder that the variable names; its archive may be renewed at any time.
+fn named_archive(folder: PathBuf) -> PathBuf {
+    println!("cargo:rerun-if-changed={}", folder.join(ARCHIVE).display());
+    folder
 }
 
 /// Has the archive proved and built, which takes minutes from nothing and seconds when all is proved, and gives its folder.

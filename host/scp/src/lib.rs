@@ -26,6 +26,18 @@ mod replay;
 pub use refusal::{Reason, Refusal};
 pub use replay::{replay, Answer, Call};
 
+/// How many tracks the table has: their numbers are 0 to 167.
+pub const TRACKS: u32 = 168;
+
+/// The length of the longest image, in bytes.
+pub const LONGEST_IMAGE: usize = 268_435_456;
+
+/// What a zero word adds to the interval that the next closing word ends, in ticks.
+pub const ZERO_WORD_TICKS: u64 = 65_536;
+
+/// The strings of a footer, in the order of [`Footer::strings`].
+pub const STRING_NAMES: [&str; 6] = ["maker", "model", "serial", "creator", "application", "comments"];
+
 /// The fields of the header.
 #[derive(Clone, Copy, Debug, PartialEq, Eq)]
 pub struct Header {
@@ -189,6 +201,16 @@ pub fn string(image: &[u8], offset: u32) -> Option<&[u8]> {
     let rest = image.get(offset as usize..)?;
     let size = u16::from_le_bytes([*rest.first()?, *rest.get(1)?]);
     rest.get(2..2 + usize::from(size))
+}
+
+/// The numbers of the tracks that the image has, in order.
+///
+/// ```
+/// assert_eq!(scp::tracks(&scp::example::image_a()), Ok(vec![0]));
+/// ```
+pub fn tracks(image: &[u8]) -> Result<Vec<u32>, Refusal> {
+    header(image)?;
+    Ok((0..TRACKS).filter(|&number| track(image, number).is_ok()).collect())
 }
 
 /// A track.

@@ -1,5 +1,6 @@
 //! Refusals: a reason with its number, and a position.
 
+use crate::STRING_NAMES;
 use std::fmt;
 
 /// Why a call is refused. The number of a reason is its discriminant, 1 to 18.
@@ -145,12 +146,22 @@ impl Refusal {
 }
 
 impl fmt::Display for Refusal {
+    /// Number, name, position and meaning, and what the position counts.
+    ///
+    /// ```
+    /// use scp::{Reason, Refusal};
+    ///
+    /// let refusal = Refusal { reason: Reason::String, position: 2 };
+    /// assert!(refusal.to_string().ends_with("a string of the footer is misplaced or malformed (string 2, the serial)"));
+    /// ```
     fn fmt(&self, f: &mut fmt::Formatter<'_>) -> fmt::Result {
-        let (number, reason) = (self.reason.number(), self.reason);
-        write!(f, "refused {number} ({reason:?}) at {}: {}", self.position, reason.meaning())?;
-        match reason.position_counts() {
-            Some(kind) => write!(f, " ({kind} {})", self.position),
-            None => Ok(()),
+        let (number, reason, position) = (self.reason.number(), self.reason, self.position);
+        write!(f, "refused {number} ({reason:?}) at {position}: {}", reason.meaning())?;
+        let string = STRING_NAMES.iter().zip(0..).find(|(_, place)| *place == position);
+        match (reason.position_counts(), string) {
+            (Some(kind), Some((name, _))) if reason == Reason::String => write!(f, " ({kind} {position}, the {name})"),
+            (Some(kind), _) => write!(f, " ({kind} {position})"),
+            (None, _) => Ok(()),
         }
     }
 }

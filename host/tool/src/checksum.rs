@@ -1,0 +1,54 @@
+//! The stored checksum of an image and the sum that its bytes have.
+
+use std::fmt;
+use std::io::{self, Write};
+
+use scp::Refusal;
+
+/// Where the bytes start that the checksum adds.
+const SUMMED_FROM: usize = 0x10;
+
+/// The checksum of an image, and whether it is as it must be.
+pub struct Checksum {
+    /// The one in the header.
+    pub stored: u32,
+    /// The sum of the bytes, modulo 2^32.
+    pub sum: u32,
+    /// Whether the image is read/write: it must store 0 then.
+    pub read_write: bool,
+    /// Whether the image is sound, so that it validates.
+    pub sound: bool,
+}
+
+impl Checksum {
+    /// The checksum of an image that opens.
+    pub fn of(image: &[u8]) -> Result<Checksum, Refusal> {
+        let header = scp::header(image)?;
+        let bytes = image.get(SUMMED_FROM..).unwrap_or_default();
+        let sum = bytes.iter().fold(0, |sum: u32, &byte| sum.wrapping_add(u32::from(byte)));
+        Ok(Checksum { stored: header.checksum, sum, read_write: header.is_read_write(), sound: scp::validate(image).is_ok() })
+    }
+}
+
+impl fmt::Display for Checksum {
+    fn fmt(&self, f: &mut fmt::Formatter<'_>) -> fmt::Result {
+        let state = if self.sound { "sound" } else { "damaged" };
+        match self.read_write {
+            true => write!(f, "stored {}, on a read/write image 0 is due: {state} (true sum {})", self.stored, self.sum),
+            false => write!(f, "stored {}, true sum {}: {state}", self.stored, self.sum),
+        }
+    }
+}
+
+/// Says what became of the checksum, and of damage that was there before.
+pub fn say_change(out: &mut dyn Write, before: &Checksum, after: &Checksum) -> io::Result<()> {
+    writeln!(out, "checksum {} -> {}", before.stored, after.stored)?;
+    if !before.sound {
+        writeln!(out, "the image was damaged before: {before}")?;
+    }
+    match (before.sound, after.sound) {
+        (false, false) => writeln!(out, "and it still is: {after}"),
+        (true, false) => writeln!(out, "the image is damaged now: {after}"),
+        _ => Ok(()),
+    }
+}

@@ -1,0 +1,47 @@
+//! How a command ends without success, and standard output that a closed pipe does not disturb.
+
+use std::io::{self, BufWriter, StdoutLock, Write};
+
+/// Why a command ends without success.
+#[derive(Debug)]
+pub enum Failure {
+    /// The command line is wrong.
+    Usage(String),
+    /// Something is refused, or the system fails.
+    Failed(String),
+    /// As `Failed`, and standard output says it already.
+    Said,
+}
+
+impl From<io::Error> for Failure {
+    /// Only writing to standard output fails without a file's name.
+    fn from(error: io::Error) -> Failure {
+        Failure::Failed(format!("standard output: {error}"))
+    }
+}
+
+/// A writer that takes everything quietly once nobody reads any more.
+pub struct Quiet<W: Write>(W);
+
+impl<W: Write> Write for Quiet<W> {
+    fn write(&mut self, bytes: &[u8]) -> io::Result<usize> {
+        unless_closed(self.0.write(bytes), bytes.len())
+    }
+
+    fn flush(&mut self) -> io::Result<()> {
+        unless_closed(self.0.flush(), ())
+    }
+}
+
+/// The result, but for a closed pipe what is given.
+fn unless_closed<T>(result: io::Result<T>, given: T) -> io::Result<T> {
+    match result {
+        Err(error) if error.kind() == io::ErrorKind::BrokenPipe => Ok(given),
+        other => other,
+    }
+}
+
+/// Standard output, locked and buffered.
+pub fn standard_output() -> BufWriter<Quiet<StdoutLock<'static>>> {
+    BufWriter::with_capacity(1 << 16, Quiet(io::stdout().lock()))
+}

@@ -1,0 +1,100 @@
+//! The command `scp`: SuperCard Pro flux images on a test bench, by the proved library.
+#![forbid(unsafe_code)]
+
+mod arguments;
+mod checksum;
+mod dates;
+mod failure;
+mod files;
+mod flux;
+mod list;
+mod numbers;
+mod patch;
+mod plot;
+mod read;
+mod replay;
+mod show;
+mod times;
+mod validate;
+
+use std::ffi::OsString;
+use std::io::Write;
+use std::process::ExitCode;
+
+use arguments::{suggestion, Arguments, Command};
+use failure::Failure;
+
+/// All commands, in the order of the help.
+static COMMANDS: [Command; 7] =
+    [list::COMMAND, validate::COMMAND, show::COMMAND, read::COMMAND, patch::COMMAND, replay::COMMAND, plot::COMMAND];
+
+/// The help of the tool as a whole.
+const HELP: &str = include_str!("help/scp.txt");
+
+/// Runs the command line; the exit status is 0 for success, 1 for a refusal or failure, 2 for wrong usage.
+fn main() -> ExitCode {
+    let words: Vec<OsString> = std::env::args_os().skip(1).collect();
+    let mut out = failure::standard_output();
+    let ended = run(words, &mut out);
+    let flushed = out.flush().map_err(Failure::from);
+    match ended.and(flushed) {
+        Ok(()) => ExitCode::SUCCESS,
+        Err(Failure::Said) => ExitCode::from(1),
+        Err(Failure::Failed(message)) => complain(&message, 1),
+        Err(Failure::Usage(message)) => complain(&message, 2),
+    }
+}
+
+/// Says on standard error why the status is not 0.
+fn complain(message: &str, status: u8) -> ExitCode {
+    // Where standard error is closed nothing is left to tell it to.
+    let _ = writeln!(std::io::stderr(), "scp: {message}");
+    ExitCode::from(status)
+}
+
+/// Finds what the first word asks for, and does it.
+fn run(mut words: Vec<OsString>, out: &mut dyn Write) -> Result<(), Failure> {
+    if words.is_empty() {
+        return Err(Failure::Usage("no command is given; see \"scp --help\"".to_string()));
+    }
+    let first = words.remove(0);
+    match first.to_string_lossy().as_ref() {
+        "--help" | "-h" => Ok(out.write_all(HELP.as_bytes())?),
+        "--version" | "-V" => Ok(writeln!(out, "scp {}", env!("CARGO_PKG_VERSION"))?),
+        "help" => help(&words, out),
+        name => command(find(name)?, words, out),
+    }
+}
+
+/// The command of a name.
+fn find(name: &str) -> Result<&'static Command, Failure> {
+    COMMANDS.iter().find(|command| command.name == name).ok_or_else(|| {
+        let names = COMMANDS.each_ref().map(|command| command.name);
+        let (kind, hint) = (if name.starts_with('-') { "option" } else { "command" }, suggestion(name, &names));
+        Failure::Usage(format!("unknown {kind} \"{}\"{hint}; see \"scp --help\"", files::shown(name)))
+    })
+}
+
+/// Prints the help of a command, or of the whole tool.
+fn help(words: &[OsString], out: &mut dyn Write) -> Result<(), Failure> {
+    let text = match words {
+        [] => HELP,
+        [name] if name == "help" || name == "--help" || name == "-h" => HELP,
+        [name] => find(&name.to_string_lossy())?.help,
+        _ => return Err(Failure::Usage("help takes one command; see \"scp --help\"".to_string())),
+    };
+    Ok(out.write_all(text.as_bytes())?)
+}
+
+/// Runs a command, or prints its help where its words ask for that.
+fn command(command: &Command, words: Vec<OsString>, out: &mut dyn Write) -> Result<(), Failure> {
+    let done = match Arguments::parse(command, words) {
+        Ok(Some(arguments)) => (command.run)(&arguments, out),
+        Ok(None) => Ok(out.write_all(command.help.as_bytes())?),
+        Err(failure) => Err(failure),
+    };
+    done.map_err(|failure| match failure {
+        Failure::Usage(message) => Failure::Usage(format!("{}: {message}; see \"scp help {}\"", command.name, command.name)),
+        other => other,
+    })
+}

@@ -1,0 +1,158 @@
+//! `scp replay`: a sequence of calls on an image, run by the library in one go.
+
+use std::io::Write;
+
+use scp::{Answer, Call};
+
+use crate::arguments::{Arguments, Command};
+use crate::checksum::{say_change, Checksum};
+use crate::failure::Failure;
+use crate::files::{shown, Destination, Input, Kind};
+use crate::numbers::number;
+
+/// The command.
+pub const COMMAND: Command =
+    Command { name: "replay", flags: &["--force", "--in-place"], values: &["--out"], help: include_str!("help/replay.txt"), run };
+
+/// Runs all calls on the image in memory, prints their answers, and writes the image where that is asked for.
+fn run(arguments: &Arguments, out: &mut dyn Write) -> Result<(), Failure> {
+    let [file, calls] = arguments.operands(["FILE", "CALLS"])?;
+    let target = arguments.value("--out");
+    for flag in ["--force", "--in-place"] {
+        if target.is_none() && arguments.has(flag) {
+            return Err(Failure::Usage(format!("{flag} is for --out, which is missing")));
+        }
+    }
+    let mut input = Input::read_file(file)?;
+    let destination = match target {
+        Some(target) => Some(Destination::new(target, &input, arguments, Kind::Image)?),
+        None => None,
+    };
+    if destination.is_some() {
+        input = input.uncut()?;
+    }
+    let (lines, calls) = read_calls(&Input::read_all(calls)?)?;
+    let before = Checksum::of(&input.bytes);
+    let answers = scp::replay(&mut input.bytes, &calls);
+    for ((line, call), answer) in lines.iter().zip(&calls).zip(answers) {
+        let answer = answer.map_or_else(|refusal| refusal.to_string(), say_answer);
+        writeln!(out, "{line}: {}: {answer}", say_call(call))?;
+    }
+    if let (Some(destination), Some(target)) = (destination, target) {
+        destination.write(&input.bytes)?;
+        writeln!(out, "written to {}", shown(target))?;
+        if let (Ok(before), Ok(after)) = (before, Checksum::of(&input.bytes)) {
+            say_change(out, &before, &after)?;
+        }
+    }
+    Ok(())
+}
+
+/// The calls of a file, and the numbers of their lines.
+fn read_calls(input: &Input) -> Result<(Vec<usize>, Vec<Call>), Failure> {
+    let mut found = (Vec::new(), Vec::new());
+    for (number, line) in input.lines() {
+        let call = read_call(line?).map_err(|message| input.bad_line(number, message))?;
+        found.0.push(number);
+        found.1.push(call);
+    }
+    Ok(found)
+}
+
+/// The call of a line.
+fn read_call(line: &str) -> Result<Call, String> {
+    let words: Vec<&str> = line.split_whitespace().collect();
+    Ok(match words[..] {
+        ["validate"] => Call::Validate,
+        ["header"] => Call::Header,
+        ["footer"] => Call::Footer,
+        ["track", track] => Call::Track { track: number(track)? },
+        ["track-speed", track] => Call::TrackSpeed { track: number(track)? },
+        ["revolution", track, revolution] => Call::Revolution { track: number(track)?, revolution: number(revolution)? },
+        ["flux", track, revolution] => Call::Flux { track: number(track)?, revolution: number(revolution)? },
+        ["speed", track, revolution] => Call::Speed { track: number(track)?, revolution: number(revolution)? },
+        ["rewrite", track, revolution, duration, ref hex @ ..] if !hex.is_empty() => {
+            Call::Rewrite { track: number(track)?, revolution: number(revolution)?, duration: number(duration)?, words: bytes(hex)? }
+        }
+        [name, ..] => return Err(usage(name)),
+        [] => return Err("no call".to_string()),
+    })
+}
+
+/// What is wrong with a line that is no call.
+fn usage(name: &str) -> String {
+    let due = match name {
+        "validate" | "header" | "footer" => "nothing after it",
+        "track" | "track-speed" => "TRACK",
+        "revolution" | "flux" | "speed" => "TRACK REV",
+        "rewrite" => "TRACK REV DURATION HEXWORDS (- for none)",
+        _ => return format!("unknown call \"{}\"", name.escape_debug()),
+    };
+    format!("{name} takes {due}")
+}
+
+/// The bytes of hexadecimal digits, two each; a dash alone is none.
+fn bytes(hex: &[&str]) -> Result<Vec<u8>, String> {
+    if hex == ["-"] {
+        return Ok(Vec::new());
+    }
+    let digits: Option<Vec<u32>> = hex.concat().chars().map(|digit| digit.to_digit(16)).collect();
+    let digits = digits.ok_or("the words are not hexadecimal digits")?;
+    if digits.len() % 2 == 1 {
+        return Err("the words have an odd number of hexadecimal digits".to_string());
+    }
+    Ok(digits.chunks_exact(2).map(|pair| (16 * pair[0] + pair[1]) as u8).collect())
+}
+
+/// A call as a line names it; of new words only their number.
+fn say_call(call: &Call) -> String {
+    match call {
+        Call::Validate => "validate".to_string(),
+        Call::Header => "header".to_string(),
+        Call::Footer => "footer".to_string(),
+        Call::Track { track } => format!("track {track}"),
+        Call::TrackSpeed { track } => format!("track-speed {track}"),
+        Call::Revolution { track, revolution } => format!("revolution {track} {revolution}"),
+        Call::Flux { track, revolution } => format!("flux {track} {revolution}"),
+        Call::Speed { track, revolution } => format!("speed {track} {revolution}"),
+        Call::Rewrite { track, revolution, duration, words } => {
+            format!("rewrite {track} {revolution} {duration} ({} bytes)", words.len())
+        }
+    }
+}
+
+/// An answer on one line; speeds with all their digits.
+fn say_answer(answer: Answer) -> String {
+    match answer {
+        Answer::Valid => "ok".to_string(),
+        Answer::Rewritten => "ok".to_string(),
+        Answer::Header(header) => format!(
+            "version 0x{:02X} disk 0x{:02X} revolutions {} start {} end {} flags 0x{:02X} width {} heads {} checksum {}",
+            header.version,
+            header.disk,
+            header.revolutions,
+            header.start,
+            header.end,
+            header.flags,
+            header.width,
+            header.heads,
+            header.checksum
+        ),
+        Answer::Footer(None) => "none".to_string(),
+        Answer::Footer(Some(footer)) => format!(
+            "strings {} created {} modified {} versions {}",
+            footer.strings.map(|offset| offset.to_string()).join(" "),
+            footer.created,
+            footer.modified,
+            footer.versions.map(|version| format!("0x{version:02X}")).join(" ")
+        ),
+        Answer::Track(track) => {
+            format!("cylinder {} head {} offset {} revolutions {}", track.cylinder, track.head, track.place, track.revolutions)
+        }
+        Answer::Revolution(found) => format!("duration {} words {} offset {}", found.duration, found.words, found.place),
+        Answer::Flux { size, sum } => format!("bytes {size} sum {sum}"),
+        Answer::Speed(speed) => speed.map_or("none".to_string(), |rpm| format!("{rpm:?} rpm")),
+        Answer::TrackSpeed(None) => "none".to_string(),
+        Answer::TrackSpeed(Some(speeds)) => format!("slowest {:?} rpm fastest {:?} rpm", speeds.slowest, speeds.fastest),
+    }
+}

@@ -1,0 +1,164 @@
+//! `scp show`: all that an image says of itself, for people.
+
+use std::fmt::Display;
+use std::io::{self, Write};
+
+use scp::{Footer, Header, STRING_NAMES};
+
+use crate::arguments::{Arguments, Command};
+use crate::checksum::Checksum;
+use crate::dates::utc;
+use crate::failure::Failure;
+use crate::files::Input;
+use crate::flux::count_intervals;
+use crate::numbers::{grouped, milliseconds};
+
+/// The command.
+pub const COMMAND: Command = Command { name: "show", flags: &[], values: &[], help: include_str!("help/show.txt"), run };
+
+/// The versions of the footer, in order.
+const VERSIONS: [&str; 4] = ["software version", "hardware version", "firmware version", "format version"];
+
+/// The known bits of FLAGS with what they mean when clear and when set.
+const FLAGS: [(&str, &str, &str); 6] = [
+    ("index", "flux starts anywhere on the track", "flux starts at the index"),
+    ("TPI", "48 TPI drive", "96 TPI drive"),
+    ("RPM", "300 rpm drive", "360 rpm drive"),
+    ("type", "flux as read", "flux normalized"),
+    ("read/write", "read-only", "read/write"),
+    ("footer", "no footer", "footer"),
+];
+
+/// The disk types that the text of the format names.
+const DISKS: [(u8, &str); 22] = [
+    (0x00, "Commodore 64"),
+    (0x04, "Amiga"),
+    (0x10, "Atari FM, single-sided"),
+    (0x11, "Atari FM, double-sided"),
+    (0x12, "Atari FM, extended"),
+    (0x14, "Atari ST, single-sided"),
+    (0x15, "Atari ST, double-sided"),
+    (0x20, "Apple II"),
+    (0x21, "Apple II Pro"),
+    (0x24, "Apple 400K"),
+    (0x25, "Apple 800K"),
+    (0x26, "Apple 1.44M"),
+    (0x30, "PC 360K"),
+    (0x31, "PC 720K"),
+    (0x32, "PC 1.2M"),
+    (0x33, "PC 1.44M"),
+    (0x40, "TRS-80, single-sided, single density"),
+    (0x41, "TRS-80, single-sided, double density"),
+    (0x42, "TRS-80, double-sided, single density"),
+    (0x43, "TRS-80, double-sided, double density"),
+    (0x50, "TI-99/4A"),
+    (0x60, "Roland D-20"),
+];
+
+/// Shows an image that opens, sound or damaged.
+fn run(arguments: &Arguments, out: &mut dyn Write) -> Result<(), Failure> {
+    let [file] = arguments.operands(["FILE"])?;
+    let input = Input::read(file)?;
+    let header = input.ask(scp::header)?;
+    let footer = input.ask(scp::footer)?;
+    let checksum = input.ask(Checksum::of)?;
+    let tracks = input.ask(scp::tracks)?;
+    field(out, "image", &input.name)?;
+    field(out, "size", format!("{} bytes", grouped(input.bytes.len() as u64)))?;
+    say_header(&header, tracks.len(), out)?;
+    field(out, "checksum", &checksum)?;
+    match footer {
+        Some(footer) => say_footer(&input.bytes, &footer, out)?,
+        None => field(out, "footer", "none")?,
+    }
+    say_tracks(&input, &tracks, out)?;
+    say_revolutions(&input, &tracks, out)?;
+    if !checksum.sound {
+        writeln!(out, "\nDAMAGED: the image opens, but does not validate; checksum {checksum}")?;
+    }
+    Ok(())
+}
+
+/// A line with a name and a value.
+fn field(out: &mut dyn Write, name: &str, value: impl Display) -> io::Result<()> {
+    writeln!(out, "{name:<20}{value}")
+}
+
+/// The fields of the header, decoded.
+fn say_header(header: &Header, tracks: usize, out: &mut dyn Write) -> io::Result<()> {
+    let disk = DISKS.iter().find(|(disk, _)| *disk == header.disk).map_or("not named by the format", |(_, name)| name);
+    let heads = match header.heads {
+        0 => "both",
+        1 => "side 0 only (even tracks)",
+        _ => "side 1 only (odd tracks)",
+    };
+    field(out, "version", version(header.version))?;
+    field(out, "disk type", format!("0x{:02X} ({disk})", header.disk))?;
+    field(out, "revolutions", format!("{} for each track", header.revolutions))?;
+    field(out, "tracks", format!("{} to {}, {tracks} present", header.start, header.end))?;
+    field(out, "flags", format!("0x{:02X}", header.flags))?;
+    for (bit, (name, clear, set)) in FLAGS.into_iter().enumerate() {
+        field(out, &format!("  {name}"), if header.flags & (1 << bit) == 0 { clear } else { set })?;
+    }
+    field(out, "word width", format!("{} (16 bits)", header.width))?;
+    field(out, "heads", format!("{} ({heads})", header.heads))
+}
+
+/// A version byte, a nibble each side of the point.
+fn version(byte: u8) -> String {
+    format!("{}.{} (0x{byte:02X})", byte >> 4, byte & 15)
+}
+
+/// The strings, times and versions of the footer.
+fn say_footer(image: &[u8], footer: &Footer, out: &mut dyn Write) -> io::Result<()> {
+    field(out, "footer", "present")?;
+    for (name, offset) in STRING_NAMES.into_iter().zip(footer.strings) {
+        let name = format!("  {name}");
+        match scp::string(image, offset) {
+            Some(string) => field(out, &name, format!("\"{}\" (at 0x{offset:08X})", string.escape_ascii()))?,
+            None => field(out, &name, "-")?,
+        }
+    }
+    for (name, seconds) in [("  created", footer.created), ("  modified", footer.modified)] {
+        field(out, name, format!("{} ({seconds} s)", utc(seconds)))?;
+    }
+    for (name, byte) in VERSIONS.into_iter().zip(footer.versions) {
+        field(out, &format!("  {name}"), version(byte))?;
+    }
+    Ok(())
+}
+
+/// A speed, or a dash for none.
+fn rpm(speed: Option<f64>) -> String {
+    speed.map_or("-".to_string(), |speed| format!("{speed:.3}"))
+}
+
+/// The table of tracks.
+fn say_tracks(input: &Input, tracks: &[u32], out: &mut dyn Write) -> Result<(), Failure> {
+    writeln!(out, "\ntrack cylinder head     offset revolutions   slowest rpm   fastest rpm")?;
+    for &track in tracks {
+        let found = input.ask(|image| scp::track(image, track))?;
+        let speeds = input.ask(|image| scp::track_speed(image, track))?;
+        let (slowest, fastest) = speeds.map(|speeds| (speeds.slowest, speeds.fastest)).unzip();
+        let (cylinder, head, place, revolutions) = (found.cylinder, found.head, found.place, found.revolutions);
+        let (slowest, fastest) = (rpm(slowest), rpm(fastest));
+        writeln!(out, "{track:>5} {cylinder:>8} {head:>4} 0x{place:08X} {revolutions:>11} {slowest:>13} {fastest:>13}")?;
+    }
+    Ok(())
+}
+
+/// The table of revolutions.
+fn say_revolutions(input: &Input, tracks: &[u32], out: &mut dyn Write) -> Result<(), Failure> {
+    let revolutions = input.ask(scp::header)?.revolutions;
+    writeln!(out, "\ntrack rev      ticks            ms     words intervals  open ticks           rpm")?;
+    for &track in tracks {
+        for revolution in 0..u32::from(revolutions) {
+            let found = input.ask(|image| scp::revolution(image, track, revolution))?;
+            let speed = rpm(input.ask(|image| scp::speed(image, track, revolution))?);
+            let (intervals, open) = count_intervals(input, (track, revolution))?;
+            let (ticks, ms, words) = (found.duration, milliseconds(u64::from(found.duration)), found.words);
+            writeln!(out, "{track:>5} {revolution:>3} {ticks:>10} {ms:>13} {words:>9} {intervals:>9} {open:>11} {speed:>13}")?;
+        }
+    }
+    Ok(())
+}

@@ -1,0 +1,11 @@
+//! Runs the command `scp` in temporary folders, as a user does.
+
+mod bench;
+mod list;
+mod patch;
+mod plot;
+mod read;
+mod replay;
+mod show;
+mod usage;
+mod validate;

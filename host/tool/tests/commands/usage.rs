@@ -1,0 +1,53 @@
+//! Help, versions and wrong command lines.
+
+use crate::bench::Bench;
+
+/// All commands.
+const COMMANDS: [&str; 7] = ["list", "validate", "show", "read", "patch", "replay", "plot"];
+
+#[test]
+fn help_is_there_for_all() {
+    let bench = Bench::new();
+    let whole = bench.passes("--help");
+    for line in ["help", "-h", "help help", "help --help"] {
+        assert_eq!(bench.passes(line), whole, "{line}");
+    }
+    for command in COMMANDS {
+        assert!(whole.contains(&format!("\n  {command} ")), "{command}");
+        let help = bench.passes(&format!("help {command}"));
+        assert!(
+            help.starts_with(&format!("Usage: scp {command} ")) && help.contains("\nExample") && help.contains("Exit status"),
+            "{help}"
+        );
+        assert_eq!(bench.passes(&format!("{command} --help")), help);
+        assert_eq!(bench.passes(&format!("{command} a.scp -h")), help);
+    }
+}
+
+#[test]
+fn the_version_is_the_package_s() {
+    let bench = Bench::new();
+    assert_eq!(bench.passes("--version"), format!("scp {}\n", env!("CARGO_PKG_VERSION")));
+}
+
+#[test]
+fn wrong_command_lines_name_the_help() {
+    let bench = Bench::new();
+    bench.fails("", 2, "see \"scp --help\"");
+    bench.fails("lst a.scp", 2, "unknown command \"lst\" (did you mean \"list\"?); see \"scp --help\"");
+    bench.fails("frobnicate", 2, "unknown command \"frobnicate\"; see \"scp --help\"");
+    bench.fails("--frobnicate", 2, "unknown option \"--frobnicate\"; see \"scp --help\"");
+    bench.fails("help frobnicate", 2, "unknown command \"frobnicate\"");
+    bench.fails("read a.scp 0 0 --cvs", 2, "read: unknown option \"--cvs\" (did you mean \"--csv\"?); see \"scp help read\"");
+    bench.fails("list a.scp b.scp", 2, "list: unexpected argument \"b.scp\" after FILE; see \"scp help list\"");
+    bench.fails("read a.scp 0 0 --us --us", 2, "--us is given twice");
+    bench.fails("read a.scp 0 0 --us=1", 2, "--us takes no value");
+    bench.fails("patch a.scp b.scp 0 0 --duration", 2, "--duration needs a value");
+}
+
+#[test]
+fn a_double_dash_ends_the_options() {
+    let bench = Bench::new();
+    bench.put("--us", &scp::example::image_a());
+    assert_eq!(bench.passes("read -- --us 0 0"), "160\n65537\n240\n");
+}
