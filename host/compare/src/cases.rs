@@ -45,6 +45,22 @@ fn image_case(random: &mut Random) -> Case {
     Case { bytes, questions }
 }
 
+/// Every question about every track and revolution of an image, with as many places as needed; no rewrite.
+pub fn every_question(image: &[u8]) -> Vec<Question> {
+    let mut questions = vec![Question::Validate, Question::Header { places: 9 }, Question::Footer { places: 13 }];
+    for track in 0..169 {
+        questions.push(Question::Track { track, places: 4 });
+        questions.push(Question::TrackSpeed { track, places: 3 });
+        for revolution in 0..6 {
+            let size = 2 * count(image, track, revolution).min(1 << 20) as usize;
+            questions.push(Question::Revolution { track, revolution, places: 3 });
+            questions.push(Question::Flux { track, revolution, places: size });
+            questions.push(Question::Speed { track, revolution, places: 2 });
+        }
+    }
+    questions
+}
+
 /// So many places as needed, or some more or fewer.
 fn places(random: &mut Random, needed: usize) -> usize {
     match random.below(6) {

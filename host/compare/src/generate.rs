@@ -1,6 +1,6 @@
 //! Images by chance: valid ones of every shape, and faults put into them.
 
-use crate::image::{set, store_checksum, FooterPart, Layout, Parts, Placed, RevolutionPart, TrackPart, TABLE_END};
+use crate::image::{footer_bytes, set, store_checksum, FooterPart, Layout, Parts, Placed, RevolutionPart, TrackPart, TABLE_END};
 use crate::random::Random;
 
 /// An image by chance: valid, or with a fault or several.
@@ -124,19 +124,21 @@ fn some_revolution(parts: &Parts, random: &mut Random) -> Option<(usize, usize)>
     Some((track, random.below(parts.tracks[track].revolutions.len())))
 }
 
-/// Puts the flux of a revolution elsewhere: onto that of another, onto a header, to the end, or anywhere above its header.
+/// Puts the flux of a revolution elsewhere: onto that of another, onto a header or a string, to the end, or anywhere above its header.
 fn move_flux(parts: &Parts, placed: &mut Placed, random: &mut Random) {
     let Some((track, revolution)) = some_revolution(parts, random) else { return };
     let Some((other, other_revolution)) = some_revolution(parts, random) else { return };
     let header = placed.headers[track];
     let size = 2 * parts.tracks[track].revolutions[revolution].words.len();
     let end = placed.image.len() - if parts.footer.is_some() { 48 } else { 0 };
-    let place = match random.below(6) {
+    let string = random.pick(&placed.strings) as usize;
+    let place = match random.below(7) {
         0 => placed.flux[other][other_revolution],
         1 => placed.headers[other] + random.below(20),
         2 => end - size.min(end),
         3 => (placed.flux[other][other_revolution] + 2).saturating_sub(2 * random.below(3)),
         4 => header + 4 + 12 * revolution + random.below(13),
+        5 => (string + random.below(14)).saturating_sub(size),
         _ => random.between(TABLE_END, placed.image.len()),
     };
     if header <= place {
@@ -222,14 +224,26 @@ fn spoil_span(image: &mut [u8], random: &mut Random) {
 }
 
 /// A footer without its sign or too old, or one that is flagged and not there.
-fn spoil_footer(image: &mut [u8], random: &mut Random) {
+fn spoil_footer(image: &mut Vec<u8>, random: &mut Random) {
     let Some(footer) = image.len().checked_sub(48) else { return };
-    match random.below(4) {
+    match random.below(5) {
         0 => spoil_byte(image, footer + 44, 4, random),
         1 => spoil_field(image, footer + 0x2B, &[0, 0x15, 0x16, 0x17], random),
         2 => set(image, 8, &[0x20]),
+        3 => bare_footer(image, random),
         _ => spoil_byte(image, footer, 48, random),
     }
+}
+
+/// A footer right behind the table, or a byte too close to it: no track is left.
+fn bare_footer(image: &mut Vec<u8>, random: &mut Random) {
+    image.truncate(TABLE_END);
+    image.resize(random.between(735, 737), 0);
+    image[16..].fill(0);
+    image[8] |= 0x20;
+    let footer = FooterPart { strings: Default::default(), created: 1, modified: -1, versions: [0, 0, 0, 0x16] };
+    let place = image.len() - 48;
+    set(image, place, &footer_bytes(&footer, &[0; 6]));
 }
 
 /// A string misplaced or malformed.
@@ -275,8 +289,14 @@ fn spoil_track(parts: &Parts, placed: &mut Placed, random: &mut Random) {
     let end = placed.image.len() as u32;
     let near = random.below(50) as u32;
     let values = [header as u32 + 1, header as u32 - 1, end.saturating_sub(near), end + near, u32::MAX - near, 687, 688];
-    match random.below(3) {
-        0 => set(&mut placed.image, slot, &random.pick(&values).to_le_bytes()),
+    match random.below(4) {
+        0 => {
+            // a header that starts in the table's last bytes
+            let low = random.between(676, 687);
+            set(&mut placed.image, low, &[b'T', b'R', b'K', parts.tracks[track].number]);
+            set(&mut placed.image, slot, &(low as u32).to_le_bytes());
+        }
+        3 => set(&mut placed.image, slot, &random.pick(&values).to_le_bytes()),
         1 => spoil_byte(&mut placed.image, header, 3, random),
         _ => set(&mut placed.image, header + 3, &[random.byte()]),
     }

@@ -71,6 +71,8 @@ pub struct Placed {
     pub headers: Vec<usize>,
     /// By track and revolution: the place of its flux.
     pub flux: Vec<Vec<usize>>,
+    /// The places of the strings; 0 is absent.
+    pub strings: [u32; 6],
 }
 
 /// Sets the bytes from a place on, as far as they lie in the image.
@@ -96,8 +98,8 @@ impl Parts {
             image: self.header(),
             headers: vec![0; self.tracks.len()],
             flux: self.tracks.iter().map(|track| vec![0; track.revolutions.len()]).collect(),
+            strings: [0; 6],
         };
-        let mut strings = [0; 6];
         for piece in self.pieces(random) {
             if self.layout != Layout::InOrder && random.once_in(2) {
                 let gap = random.below(6);
@@ -107,13 +109,13 @@ impl Parts {
             match piece {
                 Piece::TrackHeader { track } => placed.headers[track] = place,
                 Piece::Flux { track, revolution } => placed.flux[track][revolution] = place,
-                Piece::Text { string } => strings[string] = place as u32,
+                Piece::Text { string } => placed.strings[string] = place as u32,
             }
             placed.image.extend(self.bytes_of(&piece));
         }
         placed.image.extend(&self.trailer);
         if let Some(footer) = &self.footer {
-            placed.image.extend(footer_bytes(footer, &strings));
+            placed.image.extend(footer_bytes(footer, &placed.strings));
         }
         self.note_places(&mut placed);
         store_checksum(&mut placed.image);
@@ -192,7 +194,7 @@ impl Parts {
 }
 
 /// The 48 bytes of a footer.
-fn footer_bytes(footer: &FooterPart, strings: &[u32; 6]) -> Vec<u8> {
+pub fn footer_bytes(footer: &FooterPart, strings: &[u32; 6]) -> Vec<u8> {
     let mut bytes: Vec<u8> = strings.iter().flat_map(|offset| offset.to_le_bytes()).collect();
     bytes.extend(footer.created.to_le_bytes());
     bytes.extend(footer.modified.to_le_bytes());

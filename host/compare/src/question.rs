@@ -196,33 +196,43 @@ fn rewrite(bytes: &[u8], track: u32, revolution: u32, duration: u32, words: &[u8
     Ok(number)
 }
 
-/// Bulk reading: 15 where either buffer is too short, and then neither is changed.
+/// Bulk reading.
 fn intervals(flux: &[u8], times: usize, places: usize) -> Result<u32, Difference> {
-    let expected = reader::intervals(flux, times)
-        .and_then(|(found, open)| within(Ok(vec![found.len() as u64, open]), places).map(|values| (found, values)));
-    let lent_flux = Guarded::new(flux, BYTE);
-    let mut lent_times = Guarded::new(&vec![NUMBER; times], NUMBER);
-    let mut out = Guarded::new(&vec![NUMBER; places], NUMBER);
-    let got = raw::intervals(lent_flux.contents(), lent_times.lent(), out.lent());
-    let number = same_code(&expected, got)?;
-    let (found, values) = expected.unwrap_or_default();
-    same("the times", &lent_times, &after(NUMBER, times, &found))?;
-    same("the buffer lent", &out, &after(NUMBER, places, &values))?;
-    same("the flux", &lent_flux, flux)?;
+    let lent = Guarded::new(flux, BYTE);
+    let expected = reader::intervals(flux, times).map(|(found, open)| (vec![found.len() as u64, open], found));
+    let number = fill_two(expected, (times, NUMBER), places, |times, out| raw::intervals(lent.contents(), times, out))?;
+    same("the flux", &lent, flux)?;
     Ok(number)
 }
 
-/// Making words: 16, then 15 where either buffer is too short, and then neither is changed.
+/// Making words.
 fn words(times: &[u64], room: usize, places: usize) -> Result<u32, Difference> {
-    let expected = reader::words(times, room).and_then(|bytes| within(Ok(vec![bytes.len() as u64]), places).map(|values| (bytes, values)));
-    let lent_times = Guarded::new(times, NUMBER);
-    let mut lent_words = Guarded::new(&vec![BYTE; room], BYTE);
+    let lent = Guarded::new(times, NUMBER);
+    let expected = reader::words(times, room).map(|bytes| (vec![bytes.len() as u64], bytes));
+    let number = fill_two(expected, (room, BYTE), places, |words, out| raw::words(lent.contents(), words, out))?;
+    same("the times", &lent, times)?;
+    Ok(number)
+}
+
+/// Lends the library two buffers, for the values and for what is made, and compares the code and both: 15 where either is too short,
+/// and then neither is changed.
+fn fill_two<T: Copy + Same + Debug>(
+    expected: Result<(Vec<u64>, Vec<T>), reader::Refusal>,
+    (room, old): (usize, T),
+    places: usize,
+    call: impl FnOnce(&mut [T], &mut [u64]) -> u64,
+) -> Result<u32, Difference> {
+    let expected = expected.and_then(|(values, made)| within(Ok(values), places).map(|values| (values, made)));
+    let mut lent = Guarded::new(&vec![old; room], old);
     let mut out = Guarded::new(&vec![NUMBER; places], NUMBER);
-    let got = raw::words(lent_times.contents(), lent_words.lent(), out.lent());
+    let got = call(lent.lent(), out.lent());
     let number = same_code(&expected, got)?;
-    let (bytes, values) = expected.unwrap_or_default();
-    same("the words", &lent_words, &after(BYTE, room, &bytes))?;
+    let (values, made) = expected.unwrap_or_default();
+    if made.len() > room {
+        let what = "how much is made".to_string();
+        return Err(Difference { what, reader: made.len().to_string(), library: format!("at most {room}") });
+    }
+    same("the buffer filled", &lent, &after(old, room, &made))?;
     same("the buffer lent", &out, &after(NUMBER, places, &values))?;
-    same("the times", &lent_times, times)?;
     Ok(number)
 }

@@ -1,0 +1,125 @@
+//! Outside images: image A, the worked examples of the public text, layouts that real tools write, the stored images, and the largest.
+
+use scp::{Reason, Step};
+use scp_compare::cases::every_question;
+use scp_compare::outside::{image, CAPTURE, OLD_CAPTURE, READ_WRITE, SINGLE_SIDED};
+use scp_compare::question::{compare, Question};
+
+/// Every question on the image, put to both; and one rewrite of each present revolution.
+fn agree(name: &str, image: &[u8]) {
+    for question in every_question(image) {
+        if let Err(difference) = compare(image, &question) {
+            panic!("{name}: {question:?}: {difference:?}");
+        }
+    }
+    for track in 0..168 {
+        for revolution in 0..5 {
+            let Ok(found) = scp::revolution(image, track, revolution) else { continue };
+            let words = vec![1; 2 * found.words.min(3) as usize];
+            let question = Question::Rewrite { track, revolution, duration: 1, words };
+            if let Err(difference) = compare(image, &question) {
+                panic!("{name}: {question:?}: {difference:?}");
+            }
+        }
+    }
+}
+
+#[test]
+fn image_a_is_as_the_rules_say() {
+    let image = scp::example::image_a();
+    assert_eq!(scp::validate(&image), Ok(()));
+    assert_eq!(scp::header(&image).unwrap().checksum, 980);
+    assert_eq!(scp::all_intervals(scp::flux(&image, 0, 0).unwrap()), Ok((vec![160, 65_537, 240], 0)));
+    agree("image A", &image);
+}
+
+#[test]
+fn the_worked_examples_of_the_text_hold() {
+    // "0x0B would be 11/2 = track 5, head 1 (top). Likewise, 0x50 would be 80/2 = track 40, head 0 (bottom)."
+    let capture = image(&CAPTURE, 3);
+    for (number, cylinder, head) in [(0x0B, 5, 1), (0x50, 40, 0)] {
+        let track = scp::track(&capture, number).unwrap();
+        assert_eq!((track.cylinder, track.head), (cylinder, head));
+    }
+    // "BYTES 0x34-0x3F would be the 5th entry (duration5, length5, offset5)."
+    let place = scp::track(&capture, 0x50).unwrap().place as usize;
+    let fifth = scp::revolution(&capture, 0x50, 4).unwrap();
+    let number = |at: usize| u32::from_le_bytes([capture[at], capture[at + 1], capture[at + 2], capture[at + 3]]);
+    assert_eq!((number(place + 0x34), number(place + 0x38)), (fifth.duration, fifth.words));
+    assert_eq!(place as u64 + u64::from(number(place + 0x3C)), fifth.place);
+    // "0x00DA = 218", "0x0000, 0x0000, 0x7FFF = 65536 + 65536 + 32767 = 163839"
+    assert_eq!(scp::step(&[0x00, 0xDA], 0), Ok(Step::Interval { ticks: 218, next: 1 }));
+    assert_eq!(scp::step(&[0, 0, 0, 0, 0x7F, 0xFF], 0), Ok(Step::Interval { ticks: 163_839, next: 3 }));
+    // "0x7A1200 = 8000000", which is 200 ms and so 300 rpm
+    assert_eq!(scp::speed(&scp::example::image_a(), 0, 0), Ok(Some(300.0)));
+    // "My app" => 0x06 0x00 0x4D 0x79 0x20 .. 0x70 0x70 0x00, with 0x61 for "a"
+    let string = [0xFF, 0x06, 0x00, 0x4D, 0x79, 0x20, 0x61, 0x70, 0x70, 0x00];
+    assert_eq!(scp::string(&string, 1), Some(&b"My app"[..]));
+}
+
+#[test]
+fn layouts_of_real_tools_are_valid_and_read_alike() {
+    for (name, style) in [("capture", CAPTURE), ("old", OLD_CAPTURE), ("one side", SINGLE_SIDED), ("read/write", READ_WRITE)] {
+        let image = image(&style, 40);
+        assert_eq!(scp::validate(&image), Ok(()), "{name}");
+        assert_eq!(scp::track(&image, 0).unwrap().place, 0x2B0, "{name}");
+        agree(name, &image);
+    }
+}
+
+#[test]
+fn the_footer_of_a_capture_is_read() {
+    let image = image(&CAPTURE, 3);
+    let footer = scp::footer(&image).unwrap().expect("it is there");
+    assert_eq!(footer.strings.map(|offset| scp::string(&image, offset).is_some()), [false, false, false, false, true, false]);
+    assert_eq!(scp::string(&image, footer.strings[4]), Some(CAPTURE.application.as_bytes()));
+    assert_eq!((footer.created, footer.versions[3]), (1_767_608_067, 0x16));
+}
+
+#[test]
+fn the_stored_images_read_alike() {
+    for folder in ["../../crates/scp_test/data", "../../crates/rewrite_test/data"] {
+        let files: Vec<_> = std::fs::read_dir(folder).expect("the folder is there").map(|file| file.unwrap().path()).collect();
+        assert!(!files.is_empty(), "{folder} has images");
+        for file in files {
+            agree(&file.display().to_string(), &std::fs::read(&file).unwrap());
+        }
+    }
+}
+
+#[test]
+fn the_largest_image_is_read_and_a_larger_refused() {
+    let mut image = scp::example::image_a();
+    image.resize(268_435_456, 0);
+    for question in [Question::Validate, Question::Revolution { track: 0, revolution: 0, places: 3 }] {
+        assert_eq!(compare(&image, &question), Ok(0));
+    }
+    image.push(0);
+    assert_eq!(compare(&image, &Question::Validate), Ok(1));
+    assert_eq!(scp::header(&image).unwrap_err().reason, Reason::Size);
+}
+
+#[test]
+fn a_sum_fills_all_four_bytes_and_wraps() {
+    for (size, sum) in [(70_000, 17_850_980_u32), (17_000_000, 40_033_684)] {
+        let mut image = scp::example::image_a();
+        image.resize(712 + size, 0xFF);
+        assert_eq!(compare(&image, &Question::Validate), Ok(12));
+        image[0x0C..0x10].copy_from_slice(&sum.to_le_bytes());
+        assert_eq!(compare(&image, &Question::Validate), Ok(0));
+        let words = vec![0xFF; 8];
+        assert_eq!(compare(&image, &Question::Rewrite { track: 0, revolution: 0, duration: 0, words }), Ok(0));
+    }
+}
+
+#[test]
+fn the_longest_flux_is_read_and_longer_refused() {
+    let mut flux = vec![0; 268_435_456];
+    assert_eq!(scp::step(&flux, 134_217_727), Ok(Step::Open { ticks: 65_536 }));
+    assert_eq!(compare(&flux, &Question::Intervals { times: 0, places: 2 }), Ok(0));
+    flux.extend([0, 1]);
+    assert_eq!(compare(&flux, &Question::Intervals { times: 1, places: 2 }), Ok(17));
+    assert_eq!(compare(&flux, &Question::Step { word: 0, places: 3 }), Ok(17));
+    let rewrite = scp::rewrite(&mut scp::example::image_a(), 0, 0, 0, &flux);
+    assert_eq!(rewrite.unwrap_err().reason, Reason::Words);
+}
