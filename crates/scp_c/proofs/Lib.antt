@@ -3,3 +3,4 @@ pub mod Lending
 pub mod Putting
 pub mod Passing
 pub mod Handing
+pub mod Uncut

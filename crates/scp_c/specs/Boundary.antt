@@ -18,7 +18,7 @@ pub data Given (A : Type 0) : Type 0 where
 -- ---- what is returned
 
 -- A refusal as one number: "the refusal's number + 256 x its position". The number is in the lowest byte, the position in the 56 bits
--- above; neither is larger (`Exact`).
+-- above; no refusal of a call on an image is larger (`Uncut`).
 abbrev pub packed : ℕ → ℕ → ℕ
 packed number position = number % 256 + 256 * (position % 72_057_594_037_927_936)
 
