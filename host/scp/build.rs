@@ -4,6 +4,7 @@
 
 use std::path::{Path, PathBuf};
 use std::process::{exit, Command};
+use std::time::SystemTime;
 
 const ARCHIVE: &str = "libscp_c.a";
 
@@ -29,20 +30,42 @@ fn named_archive(folder: PathBuf) -> PathBuf {
     folder
 }
 
-/// Has the archive proved and built, which takes minutes from nothing and seconds when all is proved, and gives its folder.
+/// The folder of the archive that `rt` builds: as it is where no source is newer, else renewed.
 fn built_archive() -> PathBuf {
     let manifest = std::env::var("CARGO_MANIFEST_DIR").expect("cargo names the package's folder");
     let root = Path::new(&manifest).join("../..");
+    let mut sources = vec![root.join("crates.txt")];
     for crate_name in library_crates(&root) {
-        for part in ["src", "specs", "proofs"] {
-            let sources = root.join("crates").join(&crate_name).join(part);
-            println!("cargo:rerun-if-changed={}", sources.display());
-        }
+        sources.extend(["src", "specs", "proofs"].map(|part| root.join("crates").join(&crate_name).join(part)));
     }
-    println!("cargo:rerun-if-changed={}", root.join("crates.txt").display());
-    let run = Command::new("rt").args(["staticlib", "scp_c"]).current_dir(&root).output();
-    match run {
-        Ok(done) if done.status.success() => root.join("target").join("staticlib"),
+    for source in &sources {
+        println!("cargo:rerun-if-changed={}", source.display());
+    }
+    let folder = root.join("target").join("staticlib");
+    let built = changed(&folder.join(ARCHIVE));
+    if built.is_none() || sources.iter().any(|source| newest(source) > built) {
+        build(&root);
+    }
+    folder
+}
+
+/// When a file was last changed; nothing where there is none.
+fn changed(file: &Path) -> Option<SystemTime> {
+    std::fs::metadata(file).and_then(|found| found.modified()).ok()
+}
+
+/// When the newest file in a folder, or the file itself, was changed.
+fn newest(path: &Path) -> Option<SystemTime> {
+    match std::fs::read_dir(path) {
+        Ok(entries) => entries.flatten().filter_map(|entry| newest(&entry.path())).max(),
+        Err(_) => changed(path),
+    }
+}
+
+/// Has the archive proved and built, which takes minutes from nothing and half a minute where all is proved.
+fn build(root: &Path) {
+    match Command::new("rt").args(["staticlib", "scp_c"]).current_dir(root).output() {
+        Ok(done) if done.status.success() => {}
         Ok(done) => fail(&format!(
             "`rt staticlib scp_c` failed ({}):\n{}{}",
             done.status,
