@@ -107,12 +107,12 @@ module _ (b : List ℕ) where
   unfolding trackThen
   asked-small t rest h = small-first (openFault b) _ open-small (small-if _ _ 13 (omega arith) (small-if _ _ 13 (omega arith) h))
 
-  turn-small : (t k : ℕ) (rest : Refusal) → Small rest → Small (revolutionThen b t k rest)
-  turn-small t k rest h = asked-small t _ (small-if _ _ 14 (omega arith) h)
+  revolution-small : (t k : ℕ) (rest : Refusal) → Small rest → Small (revolutionThen b t k rest)
+  revolution-small t k rest h = asked-small t _ (small-if _ _ 14 (omega arith) h)
 
   rewrite-small : (t k : ℕ) (ws : List ℕ) → Small (rewriteFault b t k ws)
   unfolding rewriteFault wordsThenShared
-  rewrite-small t k ws = turn-small t k _ (small-if _ _ 17 (omega arith) (small-if _ _ 18 (omega arith) small-none))
+  rewrite-small t k ws = revolution-small t k _ (small-if _ _ 17 (omega arith) (small-if _ _ 18 (omega arith) small-none))
 
 -- ---- what a call answers
 
@@ -129,10 +129,10 @@ uncut b validate = whole-unless (validateFault b) _ (validate-small b) tt
 uncut b header = whole-unless (openFault b) _ (open-small b) tt
 uncut b footer = whole-unless (openFault b) _ (open-small b) (whole-either (hasFooter b) (footerValues b) answers.none tt tt)
 uncut b (track t) = whole-unless (trackQuestion b t) _ (asked-small b t none small-none) tt
-uncut b (revolution t k) = whole-unless (revolutionQuestion b t k) _ (turn-small b t k none small-none) tt
-uncut b (flux t k) = whole-unless (revolutionQuestion b t k) (bytes (fluxPart b t k)) (turn-small b t k none small-none) tt
+uncut b (revolution t k) = whole-unless (revolutionQuestion b t k) _ (revolution-small b t k none small-none) tt
+uncut b (flux t k) = whole-unless (revolutionQuestion b t k) (bytes (fluxPart b t k)) (revolution-small b t k none small-none) tt
 uncut b (speed t k) =
-    whole-unless (revolutionQuestion b t k) _ (turn-small b t k none small-none)
+    whole-unless (revolutionQuestion b t k) _ (revolution-small b t k none small-none)
     (whole-either (eqb (durationAt b (trackEntry b t) k) 0) answers.none _ tt tt)
 uncut b (trackSpeed t) =
     whole-unless (trackQuestion b t) _ (asked-small b t none small-none)

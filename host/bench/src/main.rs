@@ -84,11 +84,9 @@ fn reading(rounds: usize) {
         }
         total
     };
-    // The archive's function is called by its address, so that the plain one is, too: the call is a good part of a step.
-    let step: fn(&[u8], u64) -> Result<(u64, u64, u64), plain::Refused> = black_box(plain::step);
     let plain = || {
         let (mut word, mut total) = (0, 0);
-        while let Ok((interval @ 1.., _, next)) = step(black_box(&flux), word) {
+        while let Ok((interval @ 1.., _, next)) = plain::step(black_box(&flux), word) {
             total += interval;
             word = next;
         }
