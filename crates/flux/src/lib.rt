@@ -11,6 +11,7 @@ ghost use Rattle.flux.specs.Coding.{wordsOf, bytesOf, badFluxSize, fluxL
 ghost use Rattle.flux.specs.Reading.{intervals, openTime, closingWords};
 ghost use Rattle.flux.specs.Writing.{expressible, wordsFor};
 ghost use Rattle.flux.specs.Answers.{gives, ofStep, stepAt, ofFilled, reading, ofWritten, writing, answerOf, bufferAfter};
+use refusals::Refusal;
 
 // The ticks of a zero word, which closes no interval.
 const ZERO_TICKS: u64 = 65_536;
@@ -20,19 +21,6 @@ const FLUX_LIMIT: usize = 268_435_456;
 
 // The longest time that is written.
 const TICK_LIMIT: u64 = 4_294_967_295;
-
-// The numbers of refusal (01): the lent buffer is too short; a time cannot be expressed; flux of a bad length.
-const PLACES_REFUSED: u32 = 15;
-
-const TIME_REFUSED: u32 = 16;
-
-const WORDS_REFUSED: u32 = 17;
-
-// Why a call is refused, and where: 01's number and position.
-pub struct Refusal {
-    pub number: u32,
-    pub position: u64,
-}
 
 // The number of the word to read next (01: the reader).
 pub struct Cursor {
@@ -93,7 +81,7 @@ impl Cursor {
         let n = flux.len();
         if bad_flux_size(n) {
             return Step::Refused(Refusal {
-                number: WORDS_REFUSED,
+                number: refusals::WORDS,
                 position: 0,
             });
         }
@@ -183,7 +171,7 @@ pub fn intervals(flux: &[u8], times: &mut [u64]) -> Filled
     let n = flux.len();
     if bad_flux_size(n) {
         return Filled::Refused(Refusal {
-            number: WORDS_REFUSED,
+            number: refusals::WORDS,
             position: 0,
         });
     }
@@ -192,7 +180,7 @@ pub fn intervals(flux: &[u8], times: &mut [u64]) -> Filled
         fill(flux, times)
     } else {
         Filled::Refused(Refusal {
-            number: PLACES_REFUSED,
+            number: refusals::PLACES,
             position: 0,
         })
     }
@@ -222,14 +210,14 @@ fn measure(times: &[u64], room: usize) -> Written
             }
         } else {
             return Written::Refused(Refusal {
-                number: TIME_REFUSED,
+                number: refusals::TIME,
                 position: i as u64,
             });
         }
     }
     if most < words {
         return Written::Refused(Refusal {
-            number: PLACES_REFUSED,
+            number: refusals::PLACES,
             position: 0,
         });
     }

@@ -2,9 +2,9 @@
 // answers and what the buffers then hold. `stdout` is written by tests/flux_expected.py, which shares nothing with this code.
 use flux::Cursor;
 use flux::Filled;
-use flux::Refusal;
 use flux::Step;
 use flux::Written;
+use refusals::Refusal;
 
 fn text(s: &[u8]) {
     io::write_all(1, s);

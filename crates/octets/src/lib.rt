@@ -48,6 +48,16 @@ fn byte_after(bytes: &[u8], at: usize, k: usize) -> u8
     bytes[at + k]
 }
 
+// The byte at an offset, or 0 past the end.
+pub fn byte(bytes: &[u8], at: usize) -> u8
+    ensures { λ r. ⌜ r ≡ byteAt (now (bytes .entry)) at ⌝ }
+{
+    if bytes.len() <= at {
+        return 0;
+    }
+    bytes[at]
+}
+
 // The number of two bytes.
 fn pair(hi: u8, lo: u8) -> u16
     ensures { λ r. ⌜ r ≡ 256 * hi + lo ⌝ }

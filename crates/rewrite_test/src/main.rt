@@ -1,6 +1,6 @@
 // Rewrites each image that an argument names, each time as its file has it, with the same few rewrites. `stdout` is what
 // tests/rewrite_expected.py works out, which shares nothing with this code.
-use flux::Refusal;
+use refusals::Refusal;
 use scp::Validated;
 use scp_rewrite::Rewritten;
 

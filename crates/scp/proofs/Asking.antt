@@ -9,12 +9,12 @@ use lib.Dec.{eqb, leb}
 use lib.IntN.{ℤ}
 use lib.Ieee.{Float}
 use borrow.Author.Tests.{eq-eqb, ne-eqb, eqb-false, le-leb, lt-leb, leb-false}
-use Rattle.flux.specs.declared.Refusal.{Refusal}
-use Rattle.scp_header.specs.Refusals.{refusal, passes, refuseIf}
-use Rattle.scp_header.specs.Refusals as refusals
-use Rattle.scp_header.specs.Header.{tableEnd, trackSlots, storedSum, trackEntry}
-use Rattle.scp_header.proofs.Chain.{first-here, first-next}
-use Rattle.scp_header.proofs.Finding.{both-clear, not-refused}
+use Rattle.refusals.specs.declared.Refusal.{Refusal}
+use Rattle.refusals.specs.Refusals.{refusal, passes, refuseIf}
+use Rattle.refusals.specs.Refusals as refusals
+use Rattle.scp_fields.specs.Header.{tableEnd, trackSlots, storedSum, trackEntry}
+use Rattle.refusals.proofs.Chain.{first-here, first-next}
+use Rattle.refusals.proofs.Finding.{both-clear, not-refused}
 use Rattle.scp_open.specs.Opening.{openFault, openedImage, refusedImage, headerOf, openedOf}
 use Rattle.scp_open.specs.Speeds.{rpmOf, speedOf}
 use Rattle.scp_open.specs.declared.Speed.the-variants as speed

@@ -7,10 +7,10 @@ use native.Mathlib.Omega.{arith}
 use lib.ListN.{length}
 use lib.Dec.{leb, ltb}
 use borrow.Author.Tests.{eq-eqb, ne-eqb, eqb-true, eqb-false, le-leb, lt-leb, leb-false, ltb-true, ltb-false}
-use Rattle.flux.specs.declared.Refusal.{Refusal}
-use Rattle.scp_header.specs.Refusals.{none, refusal, passes, refuseIf, firstOf}
-use Rattle.scp_header.specs.Header.{revolutions, trackEntry}
-use Rattle.scp_header.proofs.Finding.{not-refused}
+use Rattle.refusals.specs.declared.Refusal.{Refusal}
+use Rattle.refusals.specs.Refusals.{none, refusal, passes, refuseIf, firstOf}
+use Rattle.scp_fields.specs.Header.{revolutions, trackEntry}
+use Rattle.refusals.proofs.Finding.{not-refused}
 use Rattle.scp_open.specs.Revolutions.{dataOf, revolutionOf}
 use Rattle.scp_open.specs.declared.Revolution.the-variants.{Absent, Present}
 use Rattle.scp_open.specs.declared.RevolutionData.{RevolutionData}

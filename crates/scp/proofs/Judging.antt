@@ -8,10 +8,10 @@ use native.Mathlib.Omega.{arith}
 use lib.ListN.{length, drop, length-drop}
 use lib.Seq.{length-take-le}
 use borrow.Author.Tests.{eqb-true, not-false}
-use Rattle.flux.specs.declared.Refusal.{Refusal}
-use Rattle.scp_header.specs.Refusals.{none, passes}
-use Rattle.scp_header.specs.Header.{readWrite, storedSum, trueSum, trackEntry}
-use Rattle.scp_header.proofs.Finding.{Clear, both-clear, not-refused, clear-first, clear-refuse}
+use Rattle.refusals.specs.declared.Refusal.{Refusal}
+use Rattle.refusals.specs.Refusals.{none, passes}
+use Rattle.scp_fields.specs.Header.{readWrite, storedSum, trueSum, trackEntry}
+use Rattle.refusals.proofs.Finding.{Clear, both-clear, not-refused, clear-first, clear-refuse}
 use Rattle.scp_open.specs.Tracks.{durationAt, countAt, fluxAt}
 use Rattle.scp_open.proofs.Opens.{opens, clears}
 use Rattle.scp.specs.Questions.{wantedSum, badSum, validateFault, revolutionQuestion}

@@ -6,12 +6,12 @@ use lib.ListN.{take, drop}
 use lib.Dec.{eqb}
 use lib.IntN.{ℤ}
 use lib.Ieee.{Float}
-use Rattle.flux.specs.declared.Refusal.{Refusal}
+use Rattle.refusals.specs.declared.Refusal.{Refusal}
 use Rattle.flux.specs.Answers.{Filling, refuses, reading}
 use Rattle.octets.specs.Numbers.{byteAt, le64At}
-use Rattle.scp_header.specs.Refusals.{passes}
-use Rattle.scp_header.specs.Header.{revolutions, startTrack, endTrack, flags, hasFooter, width, heads, storedSum, trackEntry}
-use Rattle.scp_header.specs.Footer.{footerAt, stringEntry}
+use Rattle.refusals.specs.Refusals.{passes}
+use Rattle.scp_fields.specs.Header.{revolutions, startTrack, endTrack, flags, hasFooter, width, heads, storedSum, trackEntry}
+use Rattle.scp_fields.specs.Footer.{footerAt, stringEntry}
 use Rattle.scp_open.specs.declared.Header.{Header}
 use Rattle.scp_open.specs.declared.RevolutionData.{RevolutionData}
 use Rattle.scp_open.specs.declared.Speed.{Speed}

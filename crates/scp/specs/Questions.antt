@@ -4,9 +4,9 @@ use Prim.Native.Nat.{ℕ}
 use mathlib.Core.List.{List}
 use mathlib.Core.Bool.{Bool, not, cond}
 use lib.Dec.{eqb, leb}
-use Rattle.flux.specs.declared.Refusal.{Refusal}
-use Rattle.scp_header.specs.Refusals.{none, refusal, refuseIf, firstOf}
-use Rattle.scp_header.specs.Header.{trackSlots, revolutions, readWrite, storedSum, trueSum, trackEntry}
+use Rattle.refusals.specs.declared.Refusal.{Refusal}
+use Rattle.refusals.specs.Refusals.{none, refusal, refuseIf, firstOf}
+use Rattle.scp_fields.specs.Header.{trackSlots, revolutions, readWrite, storedSum, trueSum, trackEntry}
 use Rattle.scp_open.specs.Opening.{openFault}
 
 -- The checksum that is to be stored: the true sum of a read-only image, 0 of a read/write one.

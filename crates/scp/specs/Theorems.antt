@@ -5,8 +5,8 @@ use mathlib.Core.Logic.{_↔_}
 use mathlib.Core.List.{List, [], _∷_}
 use mathlib.Core.Bool.{true, false}
 use lib.ListN.{length}
-use Rattle.scp_header.specs.Refusals.{none}
-use Rattle.scp_header.specs.Header.{readWrite, storedSum, trueSum}
+use Rattle.refusals.specs.Refusals.{none}
+use Rattle.scp_fields.specs.Header.{readWrite, storedSum, trueSum}
 use Rattle.scp_open.specs.Validity.{Opens}
 use Rattle.scp_open.specs.Tracks.{cylinderOf, headOf}
 use Rattle.scp.specs.Questions.{validateFault}

@@ -2,8 +2,7 @@
 ghost use mathlib.Core.Path.{_≡_};
 ghost use Prim.Native.Nat.{_+_, _*_, _<_, _≤_};
 ghost use lib.ListN.{length};
-ghost use Rattle.scp_header.specs.Refusals.{refusal};
-ghost use Rattle.scp_header.specs.Header.{tableEnd, revolutions};
+ghost use Rattle.scp_fields.specs.Header.{tableEnd, revolutions};
 ghost use Rattle.scp_open.specs.Tracks.{durationAt};
 ghost use Rattle.scp_open.specs.Speeds.{rpmOf};
 ghost use Rattle.scp.specs.Questions.{wantedSum};
@@ -11,20 +10,13 @@ ghost use Rattle.scp.specs.Durations.{longer, longestFrom, shorter, shor
 ghost use Rattle.flux.specs.Answers.{ofFilled, answerOf, bufferAfter};
 ghost use Rattle.scp.specs.Answers.{ofValidated, validateAnswer, ofHeader, headerAnswer, ofFooterData, footerValues, ofFooter, footerAnswer, foundTrack, ofTrack, trackAnswer, ofRevolution, foundRevolution, revolutionAnswer, fluxOf, fluxPart, fluxStart, ofSpeed, speedAnswer, ofTrackSpeed, trackSpeedAnswer, revolutionReading};
 use flux::Filled;
-use flux::Refusal;
+use refusals::Refusal;
 use scp_open::FileOffset;
 use scp_open::Header;
 use scp_open::Revolution;
 use scp_open::RevolutionData;
 use scp_open::Speed;
 use scp_open::TrackSpeeds;
-
-// The refusals of validating and asking (01), by number.
-const SUM_REFUSED: u32 = 12;
-
-const ABSENT_REFUSED: u32 = 13;
-
-const REVOLUTION_REFUSED: u32 = 14;
 
 // Whether an image is valid.
 pub enum Validated {
@@ -89,15 +81,6 @@ pub enum TrackSpeedAnswer {
     Refused(Refusal),
 }
 
-fn refuse(number: u32) -> Refusal
-    ensures { λ r. ⌜ r ≡ refusal number 0 ⌝ }
-{
-    Refusal {
-        number,
-        position: 0,
-    }
-}
-
 // ---- validating
 
 // The checksum that is to be stored.
@@ -123,7 +106,7 @@ pub fn validate(image: &[u8]) -> Validated
     let stored = octets::le32(image, 12);
     let wanted = wanted_sum(image);
     if stored != wanted {
-        return Validated::Refused(refuse(SUM_REFUSED));
+        return Validated::Refused(refusals::refuse(refusals::SUM, 0));
     }
     Validated::Valid
 }
@@ -197,13 +180,13 @@ fn find_track(image: &[u8], track: u32) -> Entry
         return Entry::Refused(refusal);
     }
     if 168 <= track {
-        return Entry::Refused(refuse(ABSENT_REFUSED));
+        return Entry::Refused(refusals::refuse(refusals::ABSENT, 0));
     }
     let table = opened.table;
     let t = track as usize;
     let entry = table[t];
     if entry == 0 {
-        return Entry::Refused(refuse(ABSENT_REFUSED));
+        return Entry::Refused(refusals::refuse(refusals::ABSENT, 0));
     }
     Entry::At(entry)
 }
@@ -233,7 +216,7 @@ fn find_revolution(image: &[u8], track: u32, k: u32) -> RevolutionAnswer
         Entry::At(entry) => {
             let revolution = scp_open::revolution_at(image, entry, k);
             let Revolution::Present(data) = revolution else {
-                return RevolutionAnswer::Refused(refuse(REVOLUTION_REFUSED));
+                return RevolutionAnswer::Refused(refusals::refuse(refusals::REVOLUTION, 0));
             };
             RevolutionAnswer::Found(data)
         }

@@ -6,7 +6,7 @@ use mathlib.Core.Bool.{Bool, true, false, cond}
 use native.Mathlib.Nat.{not-suc-le-zero}
 use native.Mathlib.Omega.{arith}
 use lib.ListN.{length}
-use Rattle.flux.specs.declared.Refusal.{Refusal}
+use Rattle.refusals.specs.declared.Refusal.{Refusal}
 use Rattle.scp_open.specs.declared.RevolutionData.{RevolutionData}
 use Rattle.scp.specs.declared.RevolutionAnswer.{RevolutionAnswer}
 use Rattle.scp.specs.declared.RevolutionAnswer.the-variants as revolution-answer

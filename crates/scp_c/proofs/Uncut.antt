@@ -5,13 +5,14 @@ use mathlib.Core.List.{List, []}
 use mathlib.Core.Bool.{Bool, true, false, not, cond}
 use native.Mathlib.Omega.{arith}
 use lib.Dec.{eqb}
-use Rattle.flux.specs.declared.Refusal.{Refusal}
-use Rattle.scp_header.specs.Refusals.{none, refusal, passes, refuseIf, firstOf}
-use Rattle.scp_header.specs.Search.{firstFrom}
-use Rattle.scp_header.specs.Header.{trackSlots, revolutions, hasFooter, trackEntry}
-use Rattle.scp_header.specs.Footer.{stringSlots, stringFaultAt, stringFault, footerFault}
+use Rattle.refusals.specs.declared.Refusal.{Refusal}
+use Rattle.refusals.specs.Refusals.{none, refusal, passes, refuseIf, firstOf}
+use Rattle.refusals.specs.Search.{firstFrom}
+use Rattle.scp_fields.specs.Header.{trackSlots, revolutions, hasFooter, trackEntry}
+use Rattle.scp_fields.specs.Footer.{stringSlots}
+use Rattle.scp_header.specs.Footer.{stringFaultAt, stringFault, footerFault}
 use Rattle.scp_header.specs.HeaderFault.{headFault}
-use Rattle.scp_header.proofs.Finding.{Each}
+use Rattle.refusals.proofs.Finding.{Each}
 use Rattle.scp_open.specs.Tracks.{durationAt, trackFaultAt, trackFault, tracksFault}
 use Rattle.scp_open.specs.Opening.{openFault}
 use Rattle.scp.specs.Durations.{longestFrom}

@@ -1,5 +1,2 @@
-pub mod Chain
-pub mod Loops
 pub mod Strings
-pub mod Finding
 pub mod Sizes

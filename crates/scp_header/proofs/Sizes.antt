@@ -5,9 +5,10 @@ use mathlib.Core.List.{List}
 use mathlib.Core.Bool.{true, false, or-true}
 use lib.ListN.{length}
 use borrow.Author.Tests.{lt-ltb, le-ltb, ltb-false}
-use Rattle.scp_header.specs.Header.{tableEnd, sizeLimit, badSize}
+use Rattle.scp_fields.specs.Header.{tableEnd, sizeLimit}
+use Rattle.scp_header.specs.HeaderTests.{badSize}
 use Rattle.scp_header.specs.HeaderFault.{headFault}
-use Rattle.scp_header.proofs.Finding.{neither, not-refused}
+use Rattle.refusals.proofs.Finding.{neither, not-refused}
 
 module _ (b : List ℕ) where
   pub small : length b < tableEnd → badSize b ≡ true

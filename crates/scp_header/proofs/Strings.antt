@@ -6,7 +6,7 @@ use mathlib.Core.Bool.{Bool, true, not, _||_, or-true}
 use lib.Dec.{eqb}
 use borrow.Author.Tests.{lt-ltb, le-ltb}
 use Rattle.octets.specs.Numbers.{byteAt}
-use Rattle.scp_header.specs.Header.{tableEnd, dataEnd}
+use Rattle.scp_fields.specs.Header.{tableEnd, dataEnd}
 use Rattle.scp_header.specs.Footer.{zeroWithin, badStringOf}
 
 module _ (b : List ℕ) (o n : ℕ) where

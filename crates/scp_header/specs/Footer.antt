@@ -4,28 +4,17 @@ use mathlib.Core.List.{List}
 use mathlib.Core.Bool.{Bool, not, _&&_, _||_}
 use lib.ListN.{length}
 use lib.Dec.{eqb, ltb}
-use Rattle.flux.specs.declared.Refusal.{Refusal}
+use Rattle.refusals.specs.declared.Refusal.{Refusal}
 use Rattle.octets.specs.Numbers.{byteAt, le16At, le32At}
-use Rattle.scp_header.specs.Refusals.{none, refusal, refuseIf}
-use Rattle.scp_header.specs.Search.{anyFrom, firstFrom}
-use Rattle.scp_header.specs.Header.{tableEnd, footerSize, hasFooter, dataEnd}
-
--- "The footer is the last 48 bytes".
-abbrev pub footerAt : List ℕ → ℕ
-footerAt b = length b - footerSize
-
--- How many strings the footer has: maker, model, serial, creator, application, comments.
-abbrev pub stringSlots : ℕ
-stringSlots = 6
-
--- The offset of string j, 0 = absent.
-abbrev pub stringEntry : List ℕ → ℕ → ℕ
-stringEntry b j = le32At b (footerAt b + 4 * j)
+use Rattle.refusals.specs.Refusals.{none, refusal, refuseIf}
+use Rattle.refusals.specs.Search.{anyFrom, firstFrom}
+use Rattle.scp_fields.specs.Header.{tableEnd, hasFooter, dataEnd}
+use Rattle.scp_fields.specs.Footer.{footerAt, stringSlots, stringEntry, footerLeast}
 
 -- 7 Footer: "flagged, and length below 736, no "FPCS", or byte 0x2B below 0x16".
 abbrev pub badFooter : List ℕ → Bool
 badFooter b =
-    hasFooter b && (ltb (length b) 736
+    hasFooter b && (ltb (length b) footerLeast
     || (not (eqb (byteAt b (footerAt b + 0x2C)) 0x46 && (eqb (byteAt b (footerAt b + 0x2D)) 0x50
     && (eqb (byteAt b (footerAt b + 0x2E)) 0x43 && eqb (byteAt b (footerAt b + 0x2F)) 0x53)))
     || ltb (byteAt b (footerAt b + 0x2B)) 0x16))

@@ -1,9 +1,9 @@
 -- Refusals 1 to 8 in their order (01, Numbers of refusal).
 use Prim.Native.Nat.{ℕ}
 use mathlib.Core.List.{List}
-use Rattle.flux.specs.declared.Refusal.{Refusal}
-use Rattle.scp_header.specs.Refusals.{refusal, refuseIf}
-use Rattle.scp_header.specs.Header.{badSize, badSign, badWidth, badRevolutions, badSpan, badHeads}
+use Rattle.refusals.specs.declared.Refusal.{Refusal}
+use Rattle.refusals.specs.Refusals.{refusal, refuseIf}
+use Rattle.scp_header.specs.HeaderTests.{badSize, badSign, badWidth, badRevolutions, badSpan, badHeads}
 use Rattle.scp_header.specs.Footer.{footerFault}
 
 -- "The lowest number among 1 to 8 comes first."

@@ -1,5 +1,3 @@
-pub mod Search
-pub mod Refusals
-pub mod Header
+pub mod HeaderTests
 pub mod Footer
 pub mod HeaderFault

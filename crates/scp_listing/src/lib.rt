@@ -2,8 +2,8 @@
 ghost use mathlib.Core.Path.{_≡_};
 ghost use Rattle.scp.specs.Answers.{ofValidated, validateAnswer};
 use flux::Cursor;
-use flux::Refusal;
 use flux::Step;
+use refusals::Refusal;
 use scp::HeaderAnswer;
 use scp::RevolutionAnswer;
 use scp::TrackAnswer;

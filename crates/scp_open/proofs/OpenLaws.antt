@@ -3,11 +3,11 @@ use Prim.Native.Nat.{ℕ}
 use mathlib.Core.Path.{_≡_, sym, ap, _∙_}
 use mathlib.Core.List.{List}
 use borrow.Author.Tests.{eq-eqb, ne-eqb}
-use Rattle.flux.specs.declared.Refusal.{Refusal}
+use Rattle.refusals.specs.declared.Refusal.{Refusal}
 use Rattle.scp_header.specs.HeaderFault.{headFault}
 use Rattle.scp_open.specs.Tracks.{tracksFault}
 use Rattle.scp_open.specs.Opening.{openFault, openedImage, refusedImage, openedOf}
-use Rattle.scp_header.proofs.Chain.{first-here, first-next}
+use Rattle.refusals.proofs.Chain.{first-here, first-next}
 
 module _ (b : List ℕ) where
   -- what opening finds: the header's refusal, or else the tracks'

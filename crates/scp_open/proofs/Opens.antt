@@ -9,16 +9,18 @@ use native.Mathlib.Omega.{arith}
 use lib.ListN.{length}
 use lib.Dec.{eqb, ltb}
 use borrow.Author.Tests.{ltb-false, le-ltb, eqb-true, eqb-false, eq-eqb, ne-eqb, not-false}
-use Rattle.flux.specs.declared.Refusal.{Refusal}
+use Rattle.refusals.specs.declared.Refusal.{Refusal}
 use Rattle.octets.specs.Numbers.{byteAt, le16At}
-use Rattle.scp_header.specs.Refusals.{none}
-use Rattle.scp_header.specs.Header.{tableEnd, sizeLimit, trackSlots, mostRevolutions, revolutions, startTrack, endTrack, readWrite, hasFooter, width, heads, trackEntry, dataEnd, badSize, badSign, badWidth, badRevolutions, badSpan, badHeads}
-use Rattle.scp_header.specs.Footer.{footerAt, stringSlots, stringEntry, badFooter, zeroAt, zeroWithin, badStringOf, badString, stringFaultAt, stringFault, stringsFault, footerFault}
+use Rattle.refusals.specs.Refusals.{none}
+use Rattle.scp_fields.specs.Header.{tableEnd, sizeLimit, trackSlots, mostRevolutions, revolutions, startTrack, endTrack, readWrite, hasFooter, width, heads, trackEntry, dataEnd}
+use Rattle.scp_header.specs.HeaderTests.{badSize, badSign, badWidth, badRevolutions, badSpan, badHeads}
+use Rattle.scp_fields.specs.Footer.{footerAt, stringSlots, stringEntry}
+use Rattle.scp_header.specs.Footer.{badFooter, zeroAt, zeroWithin, badStringOf, badString, stringFaultAt, stringFault, stringsFault, footerFault}
 use Rattle.scp_open.specs.Tracks.{headOf, headerSize, badSlot, badMark, fluxPast, badFlux, trackFaultAt, trackFault, tracksFault}
 use Rattle.scp_header.specs.HeaderFault.{headFault}
 use Rattle.scp_open.specs.Opening.{openFault}
 use Rattle.scp_open.specs.Validity.{StringHolds, FooterHolds, TrackHolds, Opens, OpensExactly}
-use Rattle.scp_header.proofs.Finding.{either, neither, from-none, none-from, not-refused, pass, not-excused, excuse, both-clear, clear-both, clear-below, Clear, clear-first, clear-from-all}
+use Rattle.refusals.proofs.Finding.{either, neither, from-none, none-from, not-refused, pass, not-excused, excuse, both-clear, clear-both, clear-below, Clear, clear-first, clear-from-all}
 
 -- ---- tests
 

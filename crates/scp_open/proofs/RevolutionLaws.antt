@@ -5,7 +5,7 @@ use mathlib.Core.List.{List}
 use native.Mathlib.Omega.{arith}
 use lib.Ieee.{div, ofInt}
 use borrow.Author.Tests.{lt-ltb, le-ltb, le-leb}
-use Rattle.scp_header.specs.Header.{revolutions}
+use Rattle.scp_fields.specs.Header.{revolutions}
 use Rattle.scp_open.specs.Tracks.{offsetOf}
 use Rattle.scp_open.specs.Revolutions.{dataOf, revolutionOf}
 use Rattle.scp_open.specs.Speeds.{speedOf, ThreeHundred}

@@ -7,7 +7,7 @@ use native.Mathlib.Nat.{le-of-suc-le-suc, not-suc-le-zero}
 use borrow.Author.Count.{below-more}
 use lib.ListN.{length, getD, set}
 use lib.Seq.{ext-getD, getD-set-same, getD-set-other}
-use Rattle.scp_header.specs.Search.{listFrom}
+use Rattle.refusals.specs.Search.{listFrom}
 
 module _ (f : ℕ → ℕ) where
   length-list : (i n : ℕ) → length (listFrom f i n) ≡ n

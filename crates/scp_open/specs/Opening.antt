@@ -3,10 +3,10 @@ use Prim.Native.Nat.{ℕ}
 use mathlib.Core.List.{List}
 use mathlib.Core.Bool.{cond}
 use lib.ListN.{replicate}
-use Rattle.flux.specs.declared.Refusal.{Refusal}
+use Rattle.refusals.specs.declared.Refusal.{Refusal}
 use Rattle.octets.specs.Numbers.{byteAt}
-use Rattle.scp_header.specs.Refusals.{passes, firstOf}
-use Rattle.scp_header.specs.Header.{trackSlots, revolutions, startTrack, endTrack, flags, width, heads, storedSum, entries}
+use Rattle.refusals.specs.Refusals.{passes, firstOf}
+use Rattle.scp_fields.specs.Header.{trackSlots, revolutions, startTrack, endTrack, flags, width, heads, storedSum, entries}
 use Rattle.scp_header.specs.HeaderFault.{headFault}
 use Rattle.scp_open.specs.Tracks.{tracksFault}
 use Rattle.scp_open.specs.declared.Header.{Header}

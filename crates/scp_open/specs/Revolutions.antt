@@ -3,7 +3,7 @@ use Prim.Native.Nat.{ℕ}
 use mathlib.Core.List.{List}
 use mathlib.Core.Bool.{cond}
 use lib.Dec.{ltb}
-use Rattle.scp_header.specs.Header.{revolutions}
+use Rattle.scp_fields.specs.Header.{revolutions}
 use Rattle.scp_open.specs.Tracks.{durationAt, countAt, fluxAt}
 use Rattle.scp_open.specs.declared.RevolutionData.{RevolutionData}
 use Rattle.scp_open.specs.declared.Revolution.{Revolution}

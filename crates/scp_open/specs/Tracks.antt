@@ -3,11 +3,11 @@ use Prim.Native.Nat.{ℕ, _+_, _*_, _/_, _%_}
 use mathlib.Core.List.{List}
 use mathlib.Core.Bool.{Bool, not, _&&_, _||_, cond}
 use lib.Dec.{eqb, ltb, leb}
-use Rattle.flux.specs.declared.Refusal.{Refusal}
+use Rattle.refusals.specs.declared.Refusal.{Refusal}
 use Rattle.octets.specs.Numbers.{byteAt, le32At}
-use Rattle.scp_header.specs.Refusals.{none, refusal, refuseIf}
-use Rattle.scp_header.specs.Search.{anyFrom, firstFrom}
-use Rattle.scp_header.specs.Header.{tableEnd, trackSlots, revolutions, startTrack, endTrack, heads, trackEntry, dataEnd}
+use Rattle.refusals.specs.Refusals.{none, refusal, refuseIf}
+use Rattle.refusals.specs.Search.{anyFrom, firstFrom}
+use Rattle.scp_fields.specs.Header.{tableEnd, trackSlots, revolutions, startTrack, endTrack, heads, trackEntry, dataEnd}
 
 -- "Cylinder is number / 2, head the remainder."
 abbrev pub cylinderOf : ℕ → ℕ

@@ -7,9 +7,9 @@ use mathlib.Core.List.{List}
 use mathlib.Core.Bool.{true}
 use lib.ListN.{length}
 use Rattle.octets.specs.Numbers.{byteAt, le16At}
-use Rattle.scp_header.specs.Refusals.{none}
-use Rattle.scp_header.specs.Header.{sizeLimit, tableEnd, trackSlots, mostRevolutions, revolutions, startTrack, endTrack, readWrite, hasFooter, width, heads, trackEntry, dataEnd}
-use Rattle.scp_header.specs.Footer.{footerAt, stringSlots, stringEntry}
+use Rattle.refusals.specs.Refusals.{none}
+use Rattle.scp_fields.specs.Header.{sizeLimit, tableEnd, trackSlots, mostRevolutions, revolutions, startTrack, endTrack, readWrite, hasFooter, width, heads, trackEntry, dataEnd}
+use Rattle.scp_fields.specs.Footer.{footerAt, stringSlots, stringEntry}
 use Rattle.scp_open.specs.Tracks.{headOf, headerSize, countAt, fluxAt}
 use Rattle.scp_open.specs.Opening.{openFault}
 

@@ -4,23 +4,12 @@ ghost use mathlib.Core.Path.{_≡_};
 ghost use Prim.Native.Nat.{_+_, _*_, _<_, _≤_};
 ghost use lib.ListN.{length};
 ghost use Rattle.octets.specs.Numbers.{le32At};
-ghost use Rattle.scp_header.specs.Refusals.{none, refusal};
-ghost use Rattle.scp_header.specs.Header.{tableEnd, entries};
+ghost use Rattle.scp_fields.specs.Header.{tableEnd, entries};
 ghost use Rattle.scp_open.specs.Tracks.{cylinderOf, headOf, offsetOf, badSlot, badMark, fluxPast, badFlux, trackFaultAt, tracksFault};
 ghost use Rattle.scp_open.specs.Opening.{headerOf, refusedImage, openedOf};
 ghost use Rattle.scp_open.specs.Revolutions.{revolutionOf};
 ghost use Rattle.scp_open.specs.Speeds.{speedOf};
-use flux::Refusal;
-
-// Where the table ends, and the least offset of tracks, flux and strings.
-const TABLE_END: usize = 688;
-
-// The refusals of tracks (01), by number.
-const SLOT_REFUSED: u32 = 9;
-
-const TRACK_REFUSED: u32 = 10;
-
-const FLUX_REFUSED: u32 = 11;
+use refusals::Refusal;
 
 // The header's fields (01, Layout).
 pub struct Header {
@@ -73,21 +62,6 @@ pub fn head(track: u32) -> u32
     ensures { λ r. ⌜ r ≡ headOf track ⌝ }
 {
     track % 2
-}
-
-fn pass() -> Refusal
-    ensures { λ r. ⌜ r ≡ none ⌝ }
-{
-    Refusal {
-        number: 0,
-        position: 0,
-    }
-}
-
-fn refuse(number: u32, position: u64) -> Refusal
-    ensures { λ r. ⌜ r ≡ refusal number position ⌝ }
-{
-    Refusal { number, position }
 }
 
 fn wide(x: u8) -> usize
@@ -144,7 +118,7 @@ fn flux_past(image: &[u8], e: usize, k: usize) -> bool
     let at = e + 4 + 12 * k;
     let count = number32(image, at + 4);
     let distance = number32(image, at + 8);
-    scp_header::data_end(image) < e + distance + 2 * count
+    scp_fields::data_end(image) < e + distance + 2 * count
 }
 
 // Whether the flux of a revolution of the track header at e ends past the data.
@@ -169,25 +143,25 @@ fn track_fault(image: &[u8], entry: u32, t: usize) -> Refusal
     ensures { λ r. ⌜ r ≡ trackFaultAt (now (image .entry)) entry t ⌝ }
 {
     if entry == 0 {
-        return pass();
+        return refusals::pass();
     }
     let e = entry as usize;
     if bad_slot(image, t) {
-        return refuse(SLOT_REFUSED, t as u64);
+        return refusals::refuse(refusals::SLOT, t as u64);
     }
-    if e < TABLE_END {
-        return refuse(TRACK_REFUSED, t as u64);
+    if e < scp_fields::TABLE_END {
+        return refusals::refuse(refusals::TRACK, t as u64);
     }
-    if scp_header::data_end(image) < e + (4 + 12 * wide(image[5])) {
-        return refuse(TRACK_REFUSED, t as u64);
+    if scp_fields::data_end(image) < e + (4 + 12 * wide(image[5])) {
+        return refusals::refuse(refusals::TRACK, t as u64);
     }
     if bad_mark(image, e, t) {
-        return refuse(TRACK_REFUSED, t as u64);
+        return refusals::refuse(refusals::TRACK, t as u64);
     }
     if bad_flux(image, e) {
-        return refuse(FLUX_REFUSED, t as u64);
+        return refusals::refuse(refusals::FLUX, t as u64);
     }
-    pass()
+    refusals::pass()
 }
 
 // The first faulty track, from the table's entries.
@@ -203,7 +177,7 @@ fn tracks_fault(image: &[u8], table: &[u32; 168]) -> Refusal
         }
         t += 1;
     }
-    pass()
+    refusals::pass()
 }
 
 // ---- opening

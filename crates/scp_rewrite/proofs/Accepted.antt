@@ -8,11 +8,11 @@ use native.Mathlib.Omega.{arith}
 use lib.ListN.{length}
 use lib.Dec.{eqb, leb}
 use borrow.Author.Tests.{ltb-false, leb-false, lt-leb, eqb-true, eqb-false, eq-eqb, ne-eqb}
-use Rattle.flux.specs.declared.Refusal.{Refusal}
+use Rattle.refusals.specs.declared.Refusal.{Refusal}
 use Rattle.flux.specs.Coding.{fluxLimit, badFluxSize}
-use Rattle.scp_header.specs.Refusals.{none, refusal, passes, refuseIf, firstOf}
-use Rattle.scp_header.specs.Header.{trackSlots, revolutions, trackEntry}
-use Rattle.scp_header.proofs.Finding.{neither, not-refused, both-clear}
+use Rattle.refusals.specs.Refusals.{none, refusal, passes, refuseIf, firstOf}
+use Rattle.scp_fields.specs.Header.{trackSlots, revolutions, trackEntry}
+use Rattle.refusals.proofs.Finding.{neither, not-refused, both-clear}
 use Rattle.scp_open.specs.Tracks.{countAt, fluxAt}
 use Rattle.scp_open.specs.Opening.{openFault}
 use Rattle.scp_open.specs.Validity.{Opens}

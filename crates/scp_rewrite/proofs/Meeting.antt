@@ -6,7 +6,7 @@ use mathlib.Core.Bool.{true, false, _&&_, or-true, and-false, and-eq-true-iff}
 use native.Mathlib.Omega.{arith}
 use lib.Dec.{ltb}
 use borrow.Author.Tests.{ltb-true, lt-ltb, le-ltb}
-use Rattle.scp_header.proofs.Finding.{either}
+use Rattle.refusals.proofs.Finding.{either}
 use Rattle.scp_rewrite.specs.Extents.{meets, In}
 use Rattle.scp_rewrite.specs.Claims.{hit}
 use Rattle.scp_rewrite.specs.declared.Extent.{Extent}

@@ -9,7 +9,7 @@ use lib.Seq.{sets}
 use Rattle.octets.specs.Sums.{sumOf}
 use Rattle.octets.proofs.Numbers.{take-sets}
 use Rattle.octets.proofs.Sums.{sum-append, sum-sets}
-use Rattle.scp_header.specs.Header.{trueSum}
+use Rattle.scp_fields.specs.Header.{trueSum}
 use Rattle.scp_rewrite.specs.Rewriting.{moved}
 use Rattle.scp_rewrite.specs.Steps.{Stored}
 

@@ -5,8 +5,8 @@ use mathlib.Core.Logic.{_≢_}
 use mathlib.Core.List.{List, []}
 use lib.ListN.{length}
 use borrow.Author.Tests.{eq-eqb, ne-eqb}
-use Rattle.flux.specs.declared.Refusal.{Refusal}
-use Rattle.scp_header.specs.Header.{trackEntry}
+use Rattle.refusals.specs.declared.Refusal.{Refusal}
+use Rattle.scp_fields.specs.Header.{trackEntry}
 use Rattle.scp.specs.Answers.{refused, numbers}
 use Rattle.scp_rewrite.specs.Rewriting.{rewriteFault, patched, summed, afterRewrite}
 use Rattle.scp_rewrite.specs.Answering.{rewriteAnswer}

@@ -10,7 +10,7 @@ use lib.Seq.{sets, length-sets}
 use borrow.Author.Tests.{le-leb}
 use Rattle.octets.specs.Numbers.{leBytes, putAt}
 use Rattle.octets.proofs.Numbers.{le-length}
-use Rattle.scp_header.specs.Header.{readWrite, storedSum, trueSum}
+use Rattle.scp_fields.specs.Header.{readWrite, storedSum, trueSum}
 use Rattle.scp_open.specs.Tracks.{revolutionAt, distanceAt}
 use Rattle.scp_rewrite.specs.Rewriting.{patched, moved, movedSum, summed}
 use Rattle.scp_rewrite.specs.Steps.{Patchable, Stored}

@@ -9,10 +9,10 @@ use native.Mathlib.Omega.{arith}
 use lib.ListN.{length, getD}
 use lib.Dec.{ltb}
 use borrow.Author.Tests.{le-leb, lt-leb, eq-eqb, ne-eqb, ltb-true, ltb-false}
-use Rattle.flux.specs.declared.Refusal.{Refusal}
-use Rattle.scp_header.specs.Refusals.{refusal, passes}
-use Rattle.scp_header.specs.Header.{trackSlots, revolutions, trackEntry, entries}
-use Rattle.scp_header.proofs.Chain.{refuse-here, refuse-next, first-here, first-next}
+use Rattle.refusals.specs.declared.Refusal.{Refusal}
+use Rattle.refusals.specs.Refusals.{refusal, passes}
+use Rattle.scp_fields.specs.Header.{trackSlots, revolutions, trackEntry, entries}
+use Rattle.refusals.proofs.Chain.{refuse-here, refuse-next, first-here, first-next}
 use Rattle.scp_open.specs.Opening.{openFault, openedImage, refusedImage, openedOf}
 use Rattle.scp_open.specs.Revolutions.{dataOf, revolutionOf}
 use Rattle.scp_open.specs.declared.Opened.{Opened}

@@ -9,10 +9,10 @@ use native.Mathlib.Decide.{ℕ-discrete, decLe}
 use native.Mathlib.Omega.{arith}
 use lib.Dec.{eqb}
 use borrow.Author.Tests.{eqb-false, eq-eqb, ne-eqb, not-true}
-use Rattle.scp_header.specs.Search.{anyFrom}
-use Rattle.scp_header.specs.Header.{tableEnd, trackSlots, footerSize, revolutions, hasFooter, trackEntry}
-use Rattle.scp_header.specs.Footer.{footerAt, stringSlots, stringEntry}
-use Rattle.scp_header.proofs.Finding.{either, any-true, any-intro}
+use Rattle.refusals.specs.Search.{anyFrom}
+use Rattle.scp_fields.specs.Header.{tableEnd, trackSlots, footerSize, revolutions, hasFooter, trackEntry}
+use Rattle.scp_fields.specs.Footer.{footerAt, stringSlots, stringEntry}
+use Rattle.refusals.proofs.Finding.{either, any-true, any-intro}
 use Rattle.scp_open.specs.Tracks.{headerSize, revolutionAt}
 use Rattle.scp_rewrite.specs.Extents.{extent, meets, In}
 use Rattle.scp_rewrite.specs.Claims.{fluxExtent, standAt, hit, fluxHit, headerHit, trackHit, trackHitAt, stringExtent, stringHit, stringHitAt, footerHit, claimed, shared}

@@ -4,9 +4,9 @@ use mathlib.Core.List.{List}
 use mathlib.Core.Bool.{Bool, not, _&&_, _||_, cond}
 use lib.Dec.{eqb}
 use Rattle.octets.specs.Numbers.{le16At}
-use Rattle.scp_header.specs.Search.{anyFrom}
-use Rattle.scp_header.specs.Header.{tableEnd, trackSlots, footerSize, revolutions, hasFooter, trackEntry}
-use Rattle.scp_header.specs.Footer.{footerAt, stringSlots, stringEntry}
+use Rattle.refusals.specs.Search.{anyFrom}
+use Rattle.scp_fields.specs.Header.{tableEnd, trackSlots, footerSize, revolutions, hasFooter, trackEntry}
+use Rattle.scp_fields.specs.Footer.{footerAt, stringSlots, stringEntry}
 use Rattle.scp_open.specs.Tracks.{headerSize, revolutionAt, countAt, fluxAt}
 use Rattle.scp_rewrite.specs.Extents.{extent, meets}
 use Rattle.scp_rewrite.specs.declared.Extent.{Extent}

@@ -5,11 +5,11 @@ use mathlib.Core.Bool.{Bool, _||_, cond}
 use lib.ListN.{length}
 use lib.Seq.{sets}
 use lib.Dec.{ltb}
-use Rattle.flux.specs.declared.Refusal.{Refusal}
+use Rattle.refusals.specs.declared.Refusal.{Refusal}
 use Rattle.flux.specs.Coding.{badFluxSize}
 use Rattle.octets.specs.Numbers.{leBytes}
-use Rattle.scp_header.specs.Refusals.{none, refusal, passes, refuseIf}
-use Rattle.scp_header.specs.Header.{readWrite, storedSum, trueSum, trackEntry}
+use Rattle.refusals.specs.Refusals.{none, refusal, passes, refuseIf}
+use Rattle.scp_fields.specs.Header.{readWrite, storedSum, trueSum, trackEntry}
 use Rattle.scp_open.specs.Tracks.{revolutionAt, countAt, fluxAt}
 use Rattle.scp.specs.Questions.{revolutionThen}
 use Rattle.scp_rewrite.specs.Claims.{standAt, shared}

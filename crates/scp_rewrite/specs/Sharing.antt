@@ -5,8 +5,8 @@ use mathlib.Core.Logic.{_↔_, _⊎_, _≢_}
 use mathlib.Core.List.{List}
 use mathlib.Core.Bool.{true}
 use Rattle.octets.specs.Numbers.{le16At}
-use Rattle.scp_header.specs.Header.{tableEnd, trackSlots, footerSize, revolutions, hasFooter, trackEntry}
-use Rattle.scp_header.specs.Footer.{footerAt, stringSlots, stringEntry}
+use Rattle.scp_fields.specs.Header.{tableEnd, trackSlots, footerSize, revolutions, hasFooter, trackEntry}
+use Rattle.scp_fields.specs.Footer.{footerAt, stringSlots, stringEntry}
 use Rattle.scp_open.specs.Tracks.{headerSize, revolutionAt, countAt, fluxAt}
 use Rattle.scp_rewrite.specs.Extents.{extent, In}
 use Rattle.scp_rewrite.specs.Claims.{standAt, shared}

@@ -6,17 +6,16 @@ ghost use Prim.Native.Nat.{_+_, _<_, _≤_};
 ghost use lib.ListN.{length};
 ghost use lib.Seq.{sets};
 ghost use Rattle.octets.specs.Numbers.{le16At, le32At, leBytes};
-ghost use Rattle.scp_header.specs.Refusals.{none, refusal};
-ghost use Rattle.scp_header.specs.Search.{anyFrom};
-ghost use Rattle.scp_header.specs.Header.{tableEnd, trackSlots, revolutions, storedSum, entries};
-ghost use Rattle.scp_header.specs.Footer.{stringSlots};
+ghost use Rattle.refusals.specs.Search.{anyFrom};
+ghost use Rattle.scp_fields.specs.Header.{tableEnd, trackSlots, revolutions, storedSum, entries};
+ghost use Rattle.scp_fields.specs.Footer.{stringSlots};
 ghost use Rattle.scp_open.specs.Tracks.{revolutionAt, countAt};
 ghost use Rattle.scp_rewrite.specs.Extents.{meets};
 ghost use Rattle.scp_rewrite.specs.Claims.{fluxExtent, standAt, hit, fluxHit, headerHit, trackHit, trackHitAt, stringHit, stringHitAt, footerHit, shared};
 ghost use Rattle.scp_rewrite.specs.Rewriting.{badWords, wordsThenShared, rewriteFault, patched, movedSum, summed, afterRewrite};
 ghost use Rattle.scp_rewrite.specs.Answering.{ofRewritten, rewriteAnswer};
 ghost use Rattle.scp_rewrite.specs.Steps.{Small, Placed, Inside, Walkable, Patchable, Stored};
-use flux::Refusal;
+use refusals::Refusal;
 use scp_open::Revolution;
 
 // Where revolutions per track, flags, checksum and table stand in the header, and where the table ends.
@@ -40,15 +39,6 @@ const FOOTER_SIZE: usize = 48;
 // The most bytes of flux.
 const FLUX_LIMIT: usize = 268_435_456;
 
-// The refusals of rewriting (01), by number.
-const ABSENT_REFUSED: u32 = 13;
-
-const REVOLUTION_REFUSED: u32 = 14;
-
-const WORDS_REFUSED: u32 = 17;
-
-const SHARED_REFUSED: u32 = 18;
-
 // Whether a revolution was rewritten.
 pub enum Rewritten {
     Done,
@@ -65,24 +55,6 @@ pub struct Extent {
 pub struct Stand {
     pub numbers: Extent,
     pub flux: Extent,
-}
-
-fn pass() -> Refusal
-    ensures { λ r. ⌜ r ≡ none ⌝ }
-{
-    Refusal {
-        number: 0,
-        position: 0,
-    }
-}
-
-fn refuse(number: u32) -> Refusal
-    ensures { λ r. ⌜ r ≡ refusal number 0 ⌝ }
-{
-    Refusal {
-        number,
-        position: 0,
-    }
 }
 
 fn wide(x: u8) -> usize
@@ -341,13 +313,13 @@ fn words_fault(
     ensures { λ r. ⌜ r ≡ wordsThenShared (now (image .entry)) entry t k n ⌝ }
 {
     if bad_words(words, n) {
-        return refuse(WORDS_REFUSED);
+        return refusals::refuse(refusals::WORDS, 0);
     }
     let s = stand_of(image, entry as usize, k);
     if is_shared(image, s, t, k, table) {
-        return refuse(SHARED_REFUSED);
+        return refusals::refuse(refusals::SHARED, 0);
     }
-    pass()
+    refusals::pass()
 }
 
 // What refuses the rewrite: the first of refusals 1 to 11, 13, 14, 17 and 18, or number 0.
@@ -361,15 +333,15 @@ fn rewrite_fault(image: &[u8], track: u32, revolution: u32, words: &[u8]) -> Ref
     }
     let t = track as usize;
     if TRACK_SLOTS <= t {
-        return refuse(ABSENT_REFUSED);
+        return refusals::refuse(refusals::ABSENT, 0);
     }
     let table = opened.table;
     let entry = table[t];
     if entry == 0 {
-        return refuse(ABSENT_REFUSED);
+        return refusals::refuse(refusals::ABSENT, 0);
     }
     let Revolution::Present(data) = scp_open::revolution_at(image, entry, revolution) else {
-        return refuse(REVOLUTION_REFUSED);
+        return refusals::refuse(refusals::REVOLUTION, 0);
     };
     words_fault(
         image,

@@ -1,7 +1,7 @@
 // Lists each image that an argument names, and asks it all the questions. `stdout` is what tests/scp_images.py works out, which shares
 // nothing with this code.
 use flux::Filled;
-use flux::Refusal;
+use refusals::Refusal;
 use scp::FooterAnswer;
 use scp::HeaderAnswer;
 use scp::RevolutionAnswer;

@@ -7,7 +7,7 @@ use mathlib.Core.List.{List}
 use native.Mathlib.Omega.{arith}
 use Rattle.octets.specs.Numbers.{Octets}
 use Rattle.octets.proofs.Numbers.{le-bound}
-use Rattle.scp_header.specs.Header.{storedSum, trueSum}
+use Rattle.scp_fields.specs.Header.{storedSum, trueSum}
 use Rattle.scp_rewrite.specs.Rewriting.{moved}
 use Rattle.sequence.specs.Claim.{distance}
 

@@ -5,8 +5,8 @@ use mathlib.Core.List.{List, [], _∷_}
 use mathlib.Core.Bool.{Bool, true, false, _&&_, cond}
 use lib.Dec.{eqb}
 use Rattle.octets.specs.Numbers.{byteAt, Octets}
-use Rattle.scp_header.specs.Refusals.{passes}
-use Rattle.scp_header.specs.Header.{trackSlots, revolutions, readWrite, trackEntry}
+use Rattle.refusals.specs.Refusals.{passes}
+use Rattle.scp_fields.specs.Header.{trackSlots, revolutions, readWrite, trackEntry}
 use Rattle.scp_open.specs.Validity.{Opens}
 use Rattle.scp_open.proofs.Opens.{opens-exactly}
 use Rattle.scp_rewrite.specs.Extents.{extent, In}

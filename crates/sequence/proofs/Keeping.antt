@@ -13,8 +13,8 @@ use lib.Dec.{eqb}
 use borrow.Author.Tests.{eq-eqb}
 use Rattle.octets.specs.Numbers.{byteAt, le16At}
 use Rattle.octets.proofs.Numbers.{Agree, le-same}
-use Rattle.scp_header.specs.Header.{trackSlots, footerSize, revolutions, readWrite, hasFooter, trackEntry, dataEnd}
-use Rattle.scp_header.specs.Footer.{footerAt, stringSlots, stringEntry}
+use Rattle.scp_fields.specs.Header.{trackSlots, footerSize, revolutions, readWrite, hasFooter, trackEntry, dataEnd}
+use Rattle.scp_fields.specs.Footer.{footerAt, stringSlots, stringEntry}
 use Rattle.scp_open.specs.Tracks.{revolutionAt, durationAt, countAt, fluxAt}
 use Rattle.scp_open.specs.Validity.{StringHolds, FooterHolds, TrackHolds, Opens}
 use Rattle.scp_rewrite.specs.Extents.{extent, In}

@@ -6,8 +6,8 @@ use lib.Dec.{T, eqb, ltb}
 use lib.IntN.{ℤ, pos}
 use lib.Ieee.{Float, nan, inf, fin, Format, binary64, prec, emax, low, up, down, unlike, odd, units, round, div, ofInt, isNan}
 use mathlib.Core.List.{List}
-use Rattle.scp_header.specs.Refusals.{passes}
-use Rattle.scp_header.specs.Header.{revolutions, trackEntry}
+use Rattle.refusals.specs.Refusals.{passes}
+use Rattle.scp_fields.specs.Header.{revolutions, trackEntry}
 use Rattle.scp_open.specs.Tracks.{durationAt}
 use Rattle.scp_open.specs.Speeds.{rpmOf}
 use Rattle.scp.specs.Questions.{trackQuestion, revolutionQuestion}

@@ -5,8 +5,8 @@ use mathlib.Core.List.{List, [], _∷_}
 use mathlib.Core.Bool.{Bool, _&&_, cond}
 use lib.ListN.{length, take, drop}
 use lib.Dec.{eqb}
-use Rattle.scp_header.specs.Refusals.{passes}
-use Rattle.scp_header.specs.Header.{trackEntry}
+use Rattle.refusals.specs.Refusals.{passes}
+use Rattle.scp_fields.specs.Header.{trackEntry}
 use Rattle.scp_open.specs.Tracks.{durationAt, countAt, fluxAt}
 use Rattle.scp.specs.Questions.{revolutionQuestion}
 use Rattle.scp.specs.Answers.{Answer, numbers, bytes, unless, validateAnswer, headerAnswer, footerAnswer, trackAnswer, revolutionAnswer, fluxPart, speedAnswer, trackSpeedAnswer}

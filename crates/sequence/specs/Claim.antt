@@ -6,8 +6,8 @@ use mathlib.Core.List.{List, [], _∷_}
 use mathlib.Core.Bool.{Bool, true, false}
 use lib.ListN.{length, take, drop}
 use Rattle.octets.specs.Numbers.{byteAt, Octets}
-use Rattle.scp_header.specs.Refusals.{none, refusal, passes}
-use Rattle.scp_header.specs.Header.{revolutions, readWrite, storedSum, trueSum, trackEntry}
+use Rattle.refusals.specs.Refusals.{none, refusal, passes}
+use Rattle.scp_fields.specs.Header.{revolutions, readWrite, storedSum, trueSum, trackEntry}
 use Rattle.scp_open.specs.Tracks.{durationAt, countAt, fluxAt}
 use Rattle.scp_open.specs.Opening.{openFault}
 use Rattle.scp.specs.Questions.{revolutionQuestion}

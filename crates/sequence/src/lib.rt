@@ -8,7 +8,7 @@ ghost use Rattle.sequence.specs.Book.{answer, after, finalBytes};
 ghost use Rattle.sequence.specs.Book as book;
 ghost use Rattle.sequence.specs.Rows.{callSize, answerSize, questionOf, capped, part, callAt, callsOf, rowOf, Real, answersAfter};
 ghost use Rattle.sequence.specs.Replaying.{ofReplayed, replayAnswer, Replays};
-use flux::Refusal;
+use refusals::Refusal;
 use scp::FooterAnswer;
 use scp::FooterData;
 use scp::HeaderAnswer;
@@ -19,9 +19,6 @@ use scp::TrackSpeedAnswer;
 use scp::Validated;
 use scp_open::Speed;
 use scp_rewrite::Rewritten;
-
-// The refusal of too few places (01), by number.
-const PLACES_REFUSED: u32 = 15;
 
 // Whether the calls were made.
 pub enum Replayed {
@@ -424,7 +421,7 @@ pub fn replay(image: &mut [u8], calls: &[u64], words: &[u8], answers: &mut [u64]
 {
     if answers.len() / 16 < calls.len() / 6 {
         return Replayed::Refused(Refusal {
-            number: PLACES_REFUSED,
+            number: refusals::PLACES,
             position: 0,
         });
     }

@@ -7,7 +7,7 @@ use mir.Syntax.{w64}
 use mir.ValLaws.{toZ-ofZ}
 use borrow.Author.Needs.{needs}
 use Rattle.octets.specs.Numbers.{byteAt, le32At}
-use Rattle.scp_header.specs.Footer.{footerAt}
+use Rattle.scp_fields.specs.Footer.{footerAt}
 use Rattle.scp.proofs.Asking.{footer-same}
 use Rattle.scp.specs.Answers.{footerValues}
 use Rattle.scp.proofs.read_footer.Statement.{statement}

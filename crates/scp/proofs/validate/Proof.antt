@@ -1,7 +1,7 @@
 -- Each return meets the tests before it: opening, then the sum.
 use mathlib.Core.Path.{_≡_, refl, sym, _∙_}
 use borrow.Author.Needs.{needs}
-use Rattle.scp_header.specs.Header.{storedSum}
+use Rattle.scp_fields.specs.Header.{storedSum}
 use Rattle.scp.specs.Questions.{wantedSum}
 use Rattle.scp.proofs.Asking.{opened-fault, opened-number, open-least, unless-refused, unless-passes, validate-open, validate-sum, validate-passes, is-refusal}
 use Rattle.scp.proofs.validate.Statement.{statement}

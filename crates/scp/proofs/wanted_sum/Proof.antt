@@ -7,7 +7,7 @@ use lib.Seq.{take-all}
 use Rattle.octets.specs.Sums.{byteSum}
 use borrow.Author.Needs.{needs}
 use borrow.Author.Tests.{eq-eqb, ne-eqb}
-use Rattle.scp_header.specs.Header.{trueSum}
+use Rattle.scp_fields.specs.Header.{trueSum}
 use Rattle.scp.specs.Questions.{wantedSum}
 use Rattle.scp.proofs.wanted_sum.Statement.{statement}
 use Rattle.scp.proofs.wanted_sum.Tie as tie

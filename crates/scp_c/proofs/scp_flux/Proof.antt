@@ -1,8 +1,8 @@
 -- Flux that is not empty is that of a revolution that is there, and is put. Where it is empty, the revolution is asked for: there, it has
 -- no bytes; else it is refused.
 use mathlib.Core.Path.{sym, ap, _∙_}
-use Rattle.scp_header.specs.Refusals.{passes}
-use Rattle.scp_header.specs.Header.{trackEntry}
+use Rattle.refusals.specs.Refusals.{passes}
+use Rattle.scp_fields.specs.Header.{trackEntry}
 use Rattle.scp_open.specs.Revolutions.{dataOf}
 use Rattle.scp.specs.Answers.{bytes, ofRevolution, foundRevolution, revolutionAnswer}
 use Rattle.scp.specs.Questions.{revolutionQuestion}

@@ -2,7 +2,7 @@
 use mathlib.Core.Path.{sym, _∙_}
 use borrow.Author.Needs.{needs}
 use Rattle.scp_header.specs.HeaderFault.{headFault}
-use Rattle.scp_header.proofs.Chain.{refuse-here, refuse-next}
+use Rattle.refusals.proofs.Chain.{refuse-here, refuse-next}
 use Rattle.scp_header.proofs.Sizes.{small, large, sized}
 use Rattle.scp_header.proofs.check_header.Statement.{statement}
 use Rattle.scp_header.proofs.check_header.Tie as tie

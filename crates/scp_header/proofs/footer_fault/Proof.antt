@@ -2,7 +2,7 @@
 use mathlib.Core.Path.{sym, _∙_}
 use borrow.Author.Needs.{needs}
 use Rattle.scp_header.specs.Footer.{footerFault}
-use Rattle.scp_header.proofs.Chain.{refuse-here, refuse-next, turned-off, turned-on}
+use Rattle.refusals.proofs.Chain.{refuse-here, refuse-next, turned-off, turned-on}
 use Rattle.scp_header.proofs.footer_fault.Statement.{statement}
 use Rattle.scp_header.proofs.footer_fault.Tie as tie
 

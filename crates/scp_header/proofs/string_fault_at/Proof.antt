@@ -2,7 +2,7 @@
 use borrow.Author.Needs.{needs}
 use borrow.Author.Tests.{eq-eqb, ne-eqb}
 use Rattle.scp_header.specs.Footer.{stringFaultAt}
-use Rattle.scp_header.proofs.Chain.{refuse-here, refuse-next}
+use Rattle.refusals.proofs.Chain.{refuse-here, refuse-next}
 use Rattle.scp_header.proofs.string_fault_at.Statement.{statement}
 use Rattle.scp_header.proofs.string_fault_at.Tie as tie
 

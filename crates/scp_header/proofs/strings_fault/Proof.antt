@@ -2,32 +2,24 @@
 use mathlib.Core.Path.{_≡_, ap, _∙_}
 use Prim.Native.Nat.{ℕ, _-_, _≤_}
 use borrow.Author.Needs.{needs}
-use Rattle.scp_header.specs.Search.{firstFrom}
-use Rattle.scp_header.specs.Footer.{stringSlots, stringFaultAt, stringFault, stringsFault}
-use Rattle.scp_header.proofs.Loops.{found-here, found-next, found-none}
+use Rattle.refusals.specs.Search.{firstFrom}
+use Rattle.scp_fields.specs.Footer.{stringSlots}
+use Rattle.scp_header.specs.Footer.{stringFaultAt, stringFault, stringsFault}
+use Rattle.refusals.proofs.Loops.{found-here, found-next, found-none}
 use Rattle.scp_header.proofs.strings_fault.Statement.{statement}
 use Rattle.scp_header.proofs.strings_fault.Tie as tie
 
 abbrev Inv-loop : tie.InvT-loop
-Inv-loop image footer j₀ j = (j ≤ stringSlots) × (firstFrom (stringFault image) j (stringSlots - j) ≡ stringsFault image)
+Inv-loop image j₀ j = (j ≤ stringSlots) × (firstFrom (stringFault image) j (stringSlots - j) ≡ stringsFault image)
 
 abbrev μ-loop : tie.MeasureT-loop
-μ-loop image footer j₀ j = stringSlots - j
-
-sub-footer : tie.Need-sub-footer Inv-loop μ-loop
-sub-footer c = search needs
+μ-loop image j₀ j = stringSlots - j
 
 loop-holds : tie.Need-loop-holds Inv-loop μ-loop
 loop-holds c = search needs
 
-mul-number32 : tie.Need-mul-number32 Inv-loop μ-loop
-mul-number32 c = search needs
-
-add-number32 : tie.Need-add-number32 Inv-loop μ-loop
-add-number32 c = search needs
-
-number32-requires : tie.Need-number32-requires Inv-loop μ-loop
-number32-requires c κs = search needs
+string-entry-requires : tie.Need-string-entry-requires Inv-loop μ-loop
+string-entry-requires c κs = search needs
 
 string-fault-at-requires : tie.Need-string-fault-at-requires Inv-loop μ-loop
 string-fault-at-requires c κs = search needs
@@ -38,7 +30,7 @@ found : (c : tie.After-string-fault-at Inv-loop μ-loop)
 found c =
     let at-loop = c .before .before .before in
     c .string-fault-at .ensures
-    ∙ ap (λ (o : ℕ). stringFaultAt (at-loop .before .before .args .image .now) o (at-loop .loop .j)) (c .before .number32 .ensures .0)
+    ∙ ap (λ (o : ℕ). stringFaultAt (at-loop .before .before .args .image .now) o (at-loop .loop .j)) (c .before .string-entry .ensures)
 
 returns : tie.Need-returns Inv-loop μ-loop
 returns c = found-here _ (c .before .before .before .before .before .loop .inv .1) (search needs) (found (c .before .before)) (c .if1 .taken)
@@ -64,11 +56,8 @@ strings-fault-spec =
     (tie.spec
     Inv-loop
     μ-loop
-    sub-footer
     loop-holds
-    mul-number32
-    add-number32
-    number32-requires
+    string-entry-requires
     string-fault-at-requires
     returns
     add-j

@@ -3,9 +3,9 @@ use mathlib.Core.Path.{_≡_, ap}
 use Prim.Native.Nat.{_-_, _≤_}
 use borrow.Author.Needs.{needs}
 use borrow.Author.Tests.{eq-eqb, ne-eqb}
-use Rattle.scp_header.specs.Search.{anyFrom}
+use Rattle.refusals.specs.Search.{anyFrom}
 use Rattle.scp_header.specs.Footer.{zeroAt, zeroWithin}
-use Rattle.scp_header.proofs.Loops.{any-here, any-next, any-end}
+use Rattle.refusals.proofs.Loops.{any-here, any-next, any-end}
 use Rattle.scp_header.proofs.zero_within.Statement.{statement}
 use Rattle.scp_header.proofs.zero_within.Tie as tie
 

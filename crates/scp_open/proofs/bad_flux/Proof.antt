@@ -2,10 +2,10 @@
 use mathlib.Core.Path.{_≡_, ap}
 use Prim.Native.Nat.{_-_, _≤_, _<_}
 use borrow.Author.Needs.{needs}
-use Rattle.scp_header.specs.Search.{anyFrom}
-use Rattle.scp_header.specs.Header.{revolutions}
+use Rattle.refusals.specs.Search.{anyFrom}
+use Rattle.scp_fields.specs.Header.{revolutions}
 use Rattle.scp_open.specs.Tracks.{fluxPast, badFlux}
-use Rattle.scp_header.proofs.Loops.{any-here, any-next, any-end}
+use Rattle.refusals.proofs.Loops.{any-here, any-next, any-end}
 use Rattle.scp_open.proofs.bad_flux.Statement.{statement}
 use Rattle.scp_open.proofs.bad_flux.Tie as tie
 

@@ -3,7 +3,7 @@ use mathlib.Core.Path.{_≡_, refl}
 use Prim.Native.Nat.{_-_, _≤_}
 use lib.ListN.{length}
 use borrow.Author.Needs.{needs}
-use Rattle.scp_header.specs.Header.{trackEntry}
+use Rattle.scp_fields.specs.Header.{trackEntry}
 use Rattle.scp_open.proofs.Table.{Filled, fill-none, fill-next, fill-end}
 use Rattle.scp_open.proofs.read_table.Statement.{statement}
 use Rattle.scp_open.proofs.read_table.Tie as tie

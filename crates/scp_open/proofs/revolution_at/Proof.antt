@@ -4,7 +4,7 @@ use Prim.Native.Nat.{_<_}
 use native.Mathlib.Omega.{arith}
 use lib.ListN.{List·getD-eq-default}
 use borrow.Author.Needs.{needs}
-use Rattle.scp_header.specs.Header.{revolutions}
+use Rattle.scp_fields.specs.Header.{revolutions}
 use Rattle.scp_open.specs.Tracks.{offsetOf, distanceAt}
 use Rattle.scp_open.specs.declared.Revolution.the-variants.{Present}
 use Rattle.scp_open.proofs.RevolutionLaws.{data-is, absent, present, exact-offset}

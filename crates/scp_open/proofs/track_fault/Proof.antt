@@ -4,9 +4,9 @@ use Prim.Native.Nat.{_+_}
 use native.Mathlib.Omega.{arith}
 use borrow.Author.Needs.{needs}
 use borrow.Author.Tests.{lt-ltb, le-ltb, eq-eqb, ne-eqb}
-use Rattle.scp_header.specs.Header.{dataEnd}
+use Rattle.scp_fields.specs.Header.{dataEnd}
 use Rattle.scp_open.specs.Tracks.{headerSize, trackFaultAt}
-use Rattle.scp_header.proofs.Chain.{refuse-here, refuse-next}
+use Rattle.refusals.proofs.Chain.{refuse-here, refuse-next}
 use Rattle.scp_open.proofs.track_fault.Statement.{statement}
 use Rattle.scp_open.proofs.track_fault.Tie as tie
 

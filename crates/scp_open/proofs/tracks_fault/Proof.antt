@@ -4,10 +4,10 @@ use mathlib.Core.List.{List}
 use Prim.Native.Nat.{ℕ, _-_, _≤_}
 use lib.ListN.{getD}
 use borrow.Author.Needs.{needs}
-use Rattle.scp_header.specs.Search.{firstFrom}
-use Rattle.scp_header.specs.Header.{trackSlots, trackEntry}
+use Rattle.refusals.specs.Search.{firstFrom}
+use Rattle.scp_fields.specs.Header.{trackSlots, trackEntry}
 use Rattle.scp_open.specs.Tracks.{trackFaultAt, trackFault, tracksFault}
-use Rattle.scp_header.proofs.Loops.{found-here, found-next, found-none}
+use Rattle.refusals.proofs.Loops.{found-here, found-next, found-none}
 use Rattle.scp_open.proofs.Table.{list-at}
 use Rattle.scp_open.proofs.tracks_fault.Statement.{statement}
 use Rattle.scp_open.proofs.tracks_fault.Tie as tie

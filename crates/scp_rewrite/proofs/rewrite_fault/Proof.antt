@@ -4,8 +4,8 @@ use mathlib.Core.Path.{sym, ap, subst⁻¹, _∙_}
 use mathlib.Core.Logic.{_≢_}
 use lib.ListN.{length}
 use borrow.Author.Needs.{needs}
-use Rattle.flux.specs.declared.Refusal.{Refusal}
-use Rattle.scp_header.specs.Header.{trackEntry}
+use Rattle.refusals.specs.declared.Refusal.{Refusal}
+use Rattle.scp_fields.specs.Header.{trackEntry}
 use Rattle.scp_open.specs.declared.RevolutionData.{RevolutionData}
 use Rattle.scp_rewrite.specs.Rewriting.{wordsThenShared}
 use Rattle.scp_rewrite.specs.Steps.{Inside}

@@ -2,10 +2,10 @@
 use Prim.Native.Nat.{_-_, _≤_}
 use mathlib.Core.Path.{_≡_, sym, ap, _∙_}
 use borrow.Author.Needs.{needs}
-use Rattle.scp_header.specs.Search.{anyFrom}
-use Rattle.scp_header.specs.Footer.{stringSlots}
+use Rattle.refusals.specs.Search.{anyFrom}
+use Rattle.scp_fields.specs.Footer.{stringSlots}
 use Rattle.scp_rewrite.specs.Claims.{stringHit, stringHitAt}
-use Rattle.scp_header.proofs.Loops.{any-here, any-next, any-end}
+use Rattle.refusals.proofs.Loops.{any-here, any-next, any-end}
 use Rattle.scp_rewrite.proofs.strings_hit.Statement.{statement}
 use Rattle.scp_rewrite.proofs.strings_hit.Tie as tie
 

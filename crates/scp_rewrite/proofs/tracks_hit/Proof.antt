@@ -4,11 +4,11 @@ use mathlib.Core.Path.{_≡_, sym, ap, subst⁻¹, _∙_}
 use mathlib.Core.List.{List}
 use lib.ListN.{getD}
 use borrow.Author.Needs.{needs}
-use Rattle.scp_header.specs.Search.{anyFrom}
-use Rattle.scp_header.specs.Header.{trackSlots, trackEntry}
+use Rattle.refusals.specs.Search.{anyFrom}
+use Rattle.scp_fields.specs.Header.{trackSlots, trackEntry}
 use Rattle.scp_rewrite.specs.Claims.{trackHit, trackHitAt}
 use Rattle.scp_rewrite.specs.Steps.{Inside}
-use Rattle.scp_header.proofs.Loops.{any-here, any-next, any-end}
+use Rattle.refusals.proofs.Loops.{any-here, any-next, any-end}
 use Rattle.scp_open.proofs.Table.{list-at}
 use Rattle.scp_rewrite.proofs.tracks_hit.Statement.{statement}
 use Rattle.scp_rewrite.proofs.tracks_hit.Tie as tie

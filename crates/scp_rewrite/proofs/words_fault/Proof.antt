@@ -6,7 +6,7 @@ use Rattle.scp_open.specs.Tracks.{countAt}
 use Rattle.scp_rewrite.specs.Claims.{standAt, shared}
 use Rattle.scp_rewrite.specs.Rewriting.{badWords, wordsThenShared}
 use Rattle.scp_rewrite.specs.declared.Stand.{Stand}
-use Rattle.scp_header.proofs.Chain.{refuse-here, refuse-next}
+use Rattle.refusals.proofs.Chain.{refuse-here, refuse-next}
 use Rattle.scp_rewrite.proofs.words_fault.Statement.{statement}
 use Rattle.scp_rewrite.proofs.words_fault.Tie as tie
 

@@ -3,7 +3,7 @@ use mathlib.Core.Path.{sym, ap, _∙_}
 use Rattle.scp.specs.Answers.{bytes, ofRevolution, revolutionAnswer}
 use Rattle.sequence.specs.Book.{answer}
 use Rattle.sequence.specs.Rows.{rowOf}
-use Rattle.scp_header.specs.Refusals.{passes}
+use Rattle.refusals.specs.Refusals.{passes}
 use Rattle.scp.specs.Questions.{revolutionQuestion}
 use Rattle.sequence.proofs.RowLaws.{flux-found, flux-refused}
 use borrow.Author.Needs.{needs}

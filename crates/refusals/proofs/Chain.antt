@@ -3,8 +3,8 @@
 use mathlib.Core.Path.{_≡_, sym, ap, _∙_}
 use mathlib.Core.Bool.{Bool, true, false, not}
 use borrow.Author.Tests.{eq-eqb, ne-eqb}
-use Rattle.flux.specs.declared.Refusal.{Refusal}
-use Rattle.scp_header.specs.Refusals.{refuseIf, firstOf}
+use Rattle.refusals.specs.declared.Refusal.{Refusal}
+use Rattle.refusals.specs.Refusals.{refuseIf, firstOf}
 
 pub refuse-here : {r : Refusal} (t : Bool) (f rest : Refusal) → t ≡ true → r ≡ f → r ≡ refuseIf t f rest
 unfolding refuseIf

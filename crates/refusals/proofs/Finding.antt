@@ -8,9 +8,9 @@ use native.Mathlib.Decide.{ℕ-discrete}
 use native.Mathlib.Omega.{arith}
 use lib.Dec.{eqb}
 use borrow.Author.Tests.{eqb-true, eqb-false, eq-eqb}
-use Rattle.flux.specs.declared.Refusal.{Refusal}
-use Rattle.scp_header.specs.Refusals.{none, refusal, refuseIf, firstOf}
-use Rattle.scp_header.specs.Search.{anyFrom, firstFrom}
+use Rattle.refusals.specs.declared.Refusal.{Refusal}
+use Rattle.refusals.specs.Refusals.{none, refusal, refuseIf, firstOf}
+use Rattle.refusals.specs.Search.{anyFrom, firstFrom}
 
 -- ---- one of two tests
 

@@ -1,12 +1,12 @@
--- The header and the table (01, Layout), and refusals 1 to 6.
+-- The header and the table (01, Layout).
 use Prim.Native.Nat.{ℕ, _+_, _-_, _*_, _/_, _%_}
 use mathlib.Core.List.{List}
-use mathlib.Core.Bool.{Bool, not, _&&_, _||_}
+use mathlib.Core.Bool.{Bool}
 use lib.ListN.{length, drop}
-use lib.Dec.{eqb, ltb}
+use lib.Dec.{eqb}
 use Rattle.octets.specs.Numbers.{byteAt, le32At}
 use Rattle.octets.specs.Sums.{byteSum}
-use Rattle.scp_header.specs.Search.{listFrom}
+use Rattle.refusals.specs.Search.{listFrom}
 
 -- ---- numbers that a later ruling could move
 
@@ -14,13 +14,21 @@ use Rattle.scp_header.specs.Search.{listFrom}
 abbrev pub sizeLimit : ℕ
 sizeLimit = 268_435_456
 
--- Where the table ends, and the least offset of tracks, flux and strings (01, Layout).
-abbrev pub tableEnd : ℕ
-tableEnd = 688
+-- Where the table of tracks starts (01, Layout).
+abbrev pub tableAt : ℕ
+tableAt = 0x10
 
 -- How many entries the table has (01, rulings: tracks number 0 to 167).
 abbrev pub trackSlots : ℕ
 trackSlots = 168
+
+-- The highest track number.
+abbrev pub lastTrack : ℕ
+lastTrack = trackSlots - 1
+
+-- Where the table ends, and the least offset of tracks, flux and strings: 688 (01, Layout).
+abbrev pub tableEnd : ℕ
+tableEnd = tableAt + 4 * trackSlots
 
 -- The most revolutions of a track (01, rulings: turns are 1 to 5).
 abbrev pub mostRevolutions : ℕ
@@ -31,6 +39,14 @@ abbrev pub footerSize : ℕ
 footerSize = 48
 
 -- ---- fields
+
+-- 0x03: the version byte, any.
+abbrev pub version : List ℕ → ℕ
+version b = byteAt b 0x03
+
+-- 0x04: the disk type, any.
+abbrev pub disk : List ℕ → ℕ
+disk b = byteAt b 0x04
 
 -- 0x05: revolutions per track (01: turns per track, R).
 abbrev pub revolutions : List ℕ → ℕ
@@ -76,7 +92,7 @@ trueSum b = byteSum (drop 0x10 b)
 
 -- 0x10: the table's entry of a track: the file offset of its header, or 0 for no track.
 abbrev pub trackEntry : List ℕ → ℕ → ℕ
-trackEntry b t = le32At b (0x10 + 4 * t)
+trackEntry b t = le32At b (tableAt + 4 * t)
 
 -- The 168 entries together.
 abbrev pub entries : List ℕ → List ℕ
@@ -85,30 +101,3 @@ entries b = listFrom (trackEntry b) 0 trackSlots
 -- "E is the image length, less 48 if FLAGS bit 5 is set."
 abbrev pub dataEnd : List ℕ → ℕ
 dataEnd b = length b - footerSize * footerBit b
-
--- ---- refusals 1 to 6
-
--- 1 Size: "length below 688 or above 268,435,456".
-unfoldable pub badSize : List ℕ → Bool
-badSize b = ltb (length b) tableEnd || ltb sizeLimit (length b)
-
--- 2 Sign: not "SCP".
-abbrev pub badSign : List ℕ → Bool
-badSign b = not (eqb (byteAt b 0) 0x53 && (eqb (byteAt b 1) 0x43 && eqb (byteAt b 2) 0x50))
-
--- 3 Width: "byte 9 not 0 or 16".
-abbrev pub badWidth : List ℕ → Bool
-badWidth b = not (eqb (width b) 0 || eqb (width b) 16)
-
--- 4 Turns: "R not 1 to 5, or read/write and R not 1".
-abbrev pub badRevolutions : List ℕ → Bool
-badRevolutions b =
-    ltb (revolutions b) 1 || (ltb mostRevolutions (revolutions b) || (readWrite b && not (eqb (revolutions b) 1)))
-
--- 5 Span: "start above end, or end above 167".
-abbrev pub badSpan : List ℕ → Bool
-badSpan b = ltb (endTrack b) (startTrack b) || ltb 167 (endTrack b)
-
--- 6 Heads: "byte 0x0A above 2".
-abbrev pub badHeads : List ℕ → Bool
-badHeads b = ltb 2 (heads b)

@@ -5,10 +5,10 @@ use mathlib.Core.Path.{_≡_, sym, ap, _∙_}
 use mathlib.Core.Bool.{Bool, true, false, _||_}
 use native.Mathlib.Omega.{arith}
 use borrow.Author.Tests.{eq-eqb}
-use Rattle.flux.specs.declared.Refusal.{Refusal}
-use Rattle.scp_header.specs.Refusals.{none, refuseIf, firstOf}
-use Rattle.scp_header.specs.Search.{anyFrom, firstFrom}
-use Rattle.scp_header.proofs.Chain.{first-here}
+use Rattle.refusals.specs.declared.Refusal.{Refusal}
+use Rattle.refusals.specs.Refusals.{none, refuseIf, firstOf}
+use Rattle.refusals.specs.Search.{anyFrom, firstFrom}
+use Rattle.refusals.proofs.Chain.{first-here}
 
 left-suc : (i n : ℕ) → i < n → n - i ≡ suc (n - (i + 1))
 left-suc i n h = omega arith

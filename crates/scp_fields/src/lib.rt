@@ -1,0 +1,177 @@
+// The fields of a SuperCard Pro image's header, table and footer, each with its place and its one reading. Each function is total: past the
+// end a byte reads 0.
+ghost use mathlib.Core.Path.{_≡_};
+ghost use Prim.Native.Nat.{_<_};
+ghost use Rattle.scp_fields.specs.Header.{
+  revolutions,
+  startTrack,
+  endTrack,
+  flags,
+  readWrite,
+  footerBit,
+  hasFooter,
+  width,
+  heads,
+  storedSum,
+  trackEntry,
+  dataEnd,
+};
+ghost use Rattle.scp_fields.specs.Footer.{footerAt, stringEntry};
+
+// Where the fields of the header stand.
+pub const VERSION_AT: usize = 3;
+
+pub const DISK_AT: usize = 4;
+
+pub const REVOLUTIONS_AT: usize = 5;
+
+pub const START_AT: usize = 6;
+
+pub const END_AT: usize = 7;
+
+pub const FLAGS_AT: usize = 8;
+
+pub const WIDTH_AT: usize = 9;
+
+pub const HEADS_AT: usize = 10;
+
+pub const CHECKSUM_AT: usize = 12;
+
+// Where the table starts, how many entries it has, the highest track number, and where the table ends: the least offset of tracks, flux and
+// strings, and where the byte sum starts is where the table does.
+pub const TABLE_AT: usize = 16;
+
+pub const TRACK_SLOTS: usize = 168;
+
+pub const LAST_TRACK: usize = TRACK_SLOTS - 1;
+
+pub const TABLE_END: usize = TABLE_AT + 4 * TRACK_SLOTS;
+
+// The most bytes of an image, and the most revolutions of a track.
+pub const SIZE_LIMIT: usize = 268_435_456;
+
+pub const MOST_REVOLUTIONS: usize = 5;
+
+// The bytes of the footer, the least length of an image that has one, and its strings.
+pub const FOOTER_SIZE: usize = 48;
+
+pub const FOOTER_LEAST: usize = TABLE_END + FOOTER_SIZE;
+
+pub const STRING_SLOTS: u32 = 6;
+
+fn wide(x: u8) -> usize
+    ensures { λ r. ⌜ (r ≡ x) × (r < 256) ⌝ }
+{
+    x as usize
+}
+
+// ---- the header
+
+// How many revolutions each track has.
+pub fn revolutions(image: &[u8]) -> usize
+    ensures { λ r. ⌜ (r ≡ revolutions (now (image .entry))) × (r < 256) ⌝ }
+{
+    wide(octets::byte(image, REVOLUTIONS_AT))
+}
+
+// The first track of the span.
+pub fn start_track(image: &[u8]) -> usize
+    ensures { λ r. ⌜ (r ≡ startTrack (now (image .entry))) × (r < 256) ⌝ }
+{
+    wide(octets::byte(image, START_AT))
+}
+
+// The last track of the span.
+pub fn end_track(image: &[u8]) -> usize
+    ensures { λ r. ⌜ (r ≡ endTrack (now (image .entry))) × (r < 256) ⌝ }
+{
+    wide(octets::byte(image, END_AT))
+}
+
+// The flags.
+pub fn flags(image: &[u8]) -> u8
+    ensures { λ r. ⌜ r ≡ flags (now (image .entry)) ⌝ }
+{
+    octets::byte(image, FLAGS_AT)
+}
+
+// Whether the image is read/write (FLAGS bit 4).
+pub fn is_read_write(image: &[u8]) -> bool
+    ensures { λ r. ⌜ r ≡ readWrite (now (image .entry)) ⌝ }
+{
+    flags(image) / 16 % 2 == 1
+}
+
+// FLAGS bit 5.
+fn footer_bit(image: &[u8]) -> usize
+    ensures { λ r. ⌜ (r ≡ footerBit (now (image .entry))) × (r < 2) ⌝ }
+{
+    wide(flags(image) / 32 % 2)
+}
+
+// Whether the image has a footer (FLAGS bit 5).
+pub fn has_footer(image: &[u8]) -> bool
+    ensures { λ r. ⌜ r ≡ hasFooter (now (image .entry)) ⌝ }
+{
+    footer_bit(image) == 1
+}
+
+// The width of a flux word.
+pub fn width(image: &[u8]) -> u8
+    ensures { λ r. ⌜ r ≡ width (now (image .entry)) ⌝ }
+{
+    octets::byte(image, WIDTH_AT)
+}
+
+// The heads: 0 both, 1 side 0, 2 side 1.
+pub fn heads(image: &[u8]) -> u8
+    ensures { λ r. ⌜ r ≡ heads (now (image .entry)) ⌝ }
+{
+    octets::byte(image, HEADS_AT)
+}
+
+// The checksum as it is stored.
+pub fn checksum(image: &[u8]) -> u32
+    ensures { λ r. ⌜ r ≡ storedSum (now (image .entry)) ⌝ }
+{
+    octets::le32(image, CHECKSUM_AT)
+}
+
+// The table's entry of a track: the file offset of its header, or 0 for no track.
+pub fn track_entry(image: &[u8], track: u32) -> u32
+    ensures { λ r. ⌜ r ≡ trackEntry (now (image .entry)) track ⌝ }
+{
+    octets::le32(image, TABLE_AT + 4 * (track as usize))
+}
+
+// Where tracks, flux and strings end (E), or 0 where the image is too short to have the footer that it flags.
+pub fn data_end(image: &[u8]) -> usize
+    ensures { λ r. ⌜ r ≡ dataEnd (now (image .entry)) ⌝ }
+{
+    let n = image.len();
+    let footer = FOOTER_SIZE * footer_bit(image);
+    if n < footer {
+        return 0;
+    }
+    n - footer
+}
+
+// ---- the footer
+
+// Where the footer stands, or 0 where the image is too short to have one.
+pub fn footer_at(image: &[u8]) -> usize
+    ensures { λ r. ⌜ r ≡ footerAt (now (image .entry)) ⌝ }
+{
+    let n = image.len();
+    if n < FOOTER_SIZE {
+        return 0;
+    }
+    n - FOOTER_SIZE
+}
+
+// The file offset of a string of the footer, or 0 for no string.
+pub fn string_entry(image: &[u8], j: u32) -> u32
+    ensures { λ r. ⌜ r ≡ stringEntry (now (image .entry)) j ⌝ }
+{
+    octets::le32(image, footer_at(image) + 4 * (j as usize))
+}
