@@ -4,7 +4,7 @@ use mathlib.Core.Path.{_≡_}
 use mathlib.Core.List.{List, [], _∷_}
 use lib.ListN.{length}
 use Rattle.octets.specs.Sums.{byteSum}
-use Rattle.scp_open.specs.Tracks.{cylinderOf, headOf}
+use Rattle.scp_tracks.specs.Tracks.{cylinderOf, headOf}
 use Rattle.flux.specs.Answers.{timeRefused, fills, refuses, reading, writing}
 
 pub data Example : Type 0 where

@@ -12,13 +12,14 @@ use Rattle.refusals.specs.declared.Refusal.{Refusal}
 use Rattle.refusals.specs.Refusals.{none, passes}
 use Rattle.scp_fields.specs.Header.{readWrite, storedSum, trueSum, trackEntry}
 use Rattle.refusals.proofs.Finding.{Clear, both-clear, not-refused, clear-first, clear-refuse}
-use Rattle.scp_open.specs.Tracks.{durationAt, countAt, fluxAt}
+use Rattle.scp_tracks.specs.Tracks.{durationAt, countAt, fluxAt}
 use Rattle.scp_open.proofs.Opens.{opens, clears}
-use Rattle.scp.specs.Questions.{wantedSum, badSum, validateFault, revolutionQuestion}
+use Rattle.scp.specs.Validating.{wantedSum, badSum, validateFault}
+use Rattle.scp_lookup.specs.Questions.{revolutionQuestion}
 use Rattle.scp.specs.Answers.{refused, numbers, revolutionAnswer, fluxPart, partOf}
 use Rattle.scp.specs.Theorems.{Valid, ValidatesExactly, FluxIsCounted, TrackNumber}
-use Rattle.scp.proofs.Asking.{validate-passes}
-use Rattle.scp.proofs.FoundLaws.{revolution-there, revolution-found, found-data, flux-within}
+use Rattle.scp.proofs.Answering.{validate-passes}
+use Rattle.scp_lookup.proofs.FoundLaws.{revolution-there, revolution-found, found-data, flux-within}
 
 -- ---- validating
 

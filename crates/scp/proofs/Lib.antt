@@ -1,4 +1,2 @@
-pub mod Asking
-pub mod FoundLaws
-pub mod Lengths
+pub mod Answering
 pub mod Judging

@@ -10,18 +10,21 @@ use Rattle.refusals.specs.declared.Refusal.{Refusal}
 use Rattle.flux.specs.Answers.{Filling, refuses, reading}
 use Rattle.octets.specs.Numbers.{byteAt, le64At}
 use Rattle.refusals.specs.Refusals.{passes}
-use Rattle.scp_fields.specs.Header.{revolutions, startTrack, endTrack, flags, hasFooter, width, heads, storedSum, trackEntry}
+use Rattle.scp_fields.specs.Header.{version, disk, revolutions, startTrack, endTrack, flags, hasFooter, width, heads, storedSum, trackEntry}
 use Rattle.scp_fields.specs.Footer.{footerAt, stringEntry}
 use Rattle.scp_open.specs.declared.Header.{Header}
-use Rattle.scp_open.specs.declared.RevolutionData.{RevolutionData}
-use Rattle.scp_open.specs.declared.Speed.{Speed}
-use Rattle.scp_open.specs.declared.Speed.the-variants as speed
-use Rattle.scp_open.specs.Tracks.{cylinderOf, headOf, durationAt, countAt, fluxAt}
+use Rattle.scp_tracks.specs.declared.RevolutionData.{RevolutionData}
+use Rattle.scp_speed.specs.declared.Speed.{Speed}
+use Rattle.scp_speed.specs.declared.Speed.the-variants as speed
+use Rattle.scp_tracks.specs.Tracks.{cylinderOf, headOf, durationAt, countAt, fluxAt}
 use Rattle.scp_open.specs.Opening.{openFault}
-use Rattle.scp_open.specs.Revolutions.{dataOf}
-use Rattle.scp_open.specs.Speeds.{rpmOf}
-use Rattle.scp.specs.Questions.{validateFault, trackQuestion, revolutionQuestion}
-use Rattle.scp.specs.Durations.{longestFrom, shortestFrom}
+use Rattle.scp_tracks.specs.Revolutions.{dataOf}
+use Rattle.scp_speed.specs.Speeds.{rpmOf, speedsOf}
+use Rattle.scp_speed.specs.declared.SpeedRange.{SpeedRange}
+use Rattle.scp_speed.specs.declared.SpeedRange.the-variants as range
+use Rattle.scp_lookup.specs.Questions.{trackQuestion, revolutionQuestion}
+use Rattle.scp_lookup.specs.Lookups.{foundRevolution}
+use Rattle.scp.specs.Validating.{validateFault}
 use Rattle.scp.specs.declared.Validated.{Validated}
 use Rattle.scp.specs.declared.Validated.the-variants as validated
 use Rattle.scp.specs.declared.HeaderAnswer.{HeaderAnswer}
@@ -29,12 +32,10 @@ use Rattle.scp.specs.declared.HeaderAnswer.the-variants as header-answer
 use Rattle.scp.specs.declared.FooterData.{FooterData}
 use Rattle.scp.specs.declared.FooterAnswer.{FooterAnswer}
 use Rattle.scp.specs.declared.FooterAnswer.the-variants as footer-answer
-use Rattle.scp.specs.declared.Entry.{Entry}
-use Rattle.scp.specs.declared.Entry.the-variants as entry
 use Rattle.scp.specs.declared.TrackAnswer.{TrackAnswer}
 use Rattle.scp.specs.declared.TrackAnswer.the-variants as track-answer
-use Rattle.scp.specs.declared.RevolutionAnswer.{RevolutionAnswer}
-use Rattle.scp.specs.declared.RevolutionAnswer.the-variants as revolution-answer
+use Rattle.scp_lookup.specs.declared.RevolutionAnswer.{RevolutionAnswer}
+use Rattle.scp_lookup.specs.declared.RevolutionAnswer.the-variants as revolution-answer
 use Rattle.scp.specs.declared.SpeedAnswer.{SpeedAnswer}
 use Rattle.scp.specs.declared.SpeedAnswer.the-variants as speed-answer
 use Rattle.scp.specs.declared.TrackSpeedAnswer.{TrackSpeedAnswer}
@@ -77,7 +78,7 @@ unfoldable pub headerAnswer : List ℕ → Answer
 headerAnswer b =
     unless (openFault b)
     (numbers
-    (byteAt b 0x03 ∷ byteAt b 0x04 ∷ revolutions b ∷ startTrack b ∷ endTrack b ∷ flags b ∷ width b ∷ heads b ∷ storedSum b ∷ []))
+    (version b ∷ disk b ∷ revolutions b ∷ startTrack b ∷ endTrack b ∷ flags b ∷ width b ∷ heads b ∷ storedSum b ∷ []))
 
 -- ---- the footer
 
@@ -106,10 +107,6 @@ footerAnswer b = unless (openFault b) (cond (hasFooter b) (footerValues b) none)
 
 -- ---- a track
 
--- The entry of track t, or why it is refused.
-unfoldable pub foundTrack : List ℕ → ℕ → Entry
-foundTrack b t = cond (passes (trackQuestion b t)) (entry.At (trackEntry b t)) (entry.Refused (trackQuestion b t))
-
 abbrev pub ofTrack : TrackAnswer → Answer
 ofTrack (track-answer.Found d) = numbers (d .cylinder ∷ d .head ∷ d .place .0 ∷ d .revolutions ∷ [])
 ofTrack (track-answer.Refused r) = refused (r .number) (r .position)
@@ -123,13 +120,6 @@ trackAnswer b t = unless (trackQuestion b t) (numbers (cylinderOf t ∷ headOf t
 abbrev pub ofRevolution : RevolutionAnswer → Answer
 ofRevolution (revolution-answer.Found d) = numbers (d .duration ∷ d .words ∷ d .place .0 ∷ [])
 ofRevolution (revolution-answer.Refused r) = refused (r .number) (r .position)
-
--- Revolution k of track t, or why it is refused.
-unfoldable pub foundRevolution : List ℕ → ℕ → ℕ → RevolutionAnswer
-foundRevolution b t k =
-    cond (passes (revolutionQuestion b t k))
-    (revolution-answer.Found (dataOf b (trackEntry b t) k))
-    (revolution-answer.Refused (revolutionQuestion b t k))
 
 -- Duration, count of words, place.
 unfoldable pub revolutionAnswer : List ℕ → ℕ → ℕ → Answer
@@ -179,14 +169,14 @@ ofTrackSpeed (track-speed-answer.Found s) = speeds (s .slowest ∷ s .fastest �
 ofTrackSpeed track-speed-answer.None = none
 ofTrackSpeed (track-speed-answer.Refused r) = refused (r .number) (r .position)
 
--- Of the track header at e: "a pair of slowest and fastest speed, from its longest and its shortest nonzero duration, or none if all are 0".
-unfoldable pub trackSpeedValues : List ℕ → ℕ → Answer
-trackSpeedValues b e =
-    cond (eqb (longestFrom (durationAt b e) 0 (revolutions b)) 0) none
-    (speeds (rpmOf (longestFrom (durationAt b e) 0 (revolutions b)) ∷ rpmOf (shortestFrom (durationAt b e) 0 (revolutions b)) ∷ []))
+-- Of a track's speeds.
+abbrev pub ofSpeedRange : SpeedRange → Answer
+ofSpeedRange (range.Speeds s) = speeds (s .slowest ∷ s .fastest ∷ [])
+ofSpeedRange range.None = none
 
+-- "a pair of slowest and fastest speed, from its longest and its shortest nonzero duration, or none if all are 0".
 unfoldable pub trackSpeedAnswer : List ℕ → ℕ → Answer
-trackSpeedAnswer b t = unless (trackQuestion b t) (trackSpeedValues b (trackEntry b t))
+trackSpeedAnswer b t = unless (trackQuestion b t) (ofSpeedRange (speedsOf b (trackEntry b t)))
 
 -- ---- its intervals at one go
 

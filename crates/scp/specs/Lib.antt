@@ -1,4 +1,3 @@
-pub mod Questions
-pub mod Durations
+pub mod Validating
 pub mod Answers
 pub mod Theorems

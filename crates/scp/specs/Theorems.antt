@@ -8,8 +8,8 @@ use lib.ListN.{length}
 use Rattle.refusals.specs.Refusals.{none}
 use Rattle.scp_fields.specs.Header.{readWrite, storedSum, trueSum}
 use Rattle.scp_open.specs.Validity.{Opens}
-use Rattle.scp_open.specs.Tracks.{cylinderOf, headOf}
-use Rattle.scp.specs.Questions.{validateFault}
+use Rattle.scp_tracks.specs.Tracks.{cylinderOf, headOf}
+use Rattle.scp.specs.Validating.{validateFault}
 use Rattle.scp.specs.Answers.{numbers, revolutionAnswer, fluxPart}
 
 -- The image obeys all that validating asks: it opens, and its checksum is the true sum if it is read-only, and 0 if it is read/write.

@@ -7,9 +7,9 @@ use native.Mathlib.Nat.{not-suc-le-zero}
 use native.Mathlib.Omega.{arith}
 use lib.ListN.{length}
 use Rattle.refusals.specs.declared.Refusal.{Refusal}
-use Rattle.scp_open.specs.declared.RevolutionData.{RevolutionData}
-use Rattle.scp.specs.declared.RevolutionAnswer.{RevolutionAnswer}
-use Rattle.scp.specs.declared.RevolutionAnswer.the-variants as revolution-answer
+use Rattle.scp_tracks.specs.declared.RevolutionData.{RevolutionData}
+use Rattle.scp_lookup.specs.declared.RevolutionAnswer.{RevolutionAnswer}
+use Rattle.scp_lookup.specs.declared.RevolutionAnswer.the-variants as revolution-answer
 use Rattle.scp.specs.Answers.{Answer, refused, bytes, partOf}
 
 -- a list without elements

@@ -13,10 +13,11 @@ use Rattle.scp_fields.specs.Footer.{stringSlots}
 use Rattle.scp_header.specs.Footer.{stringFaultAt, stringFault, footerFault}
 use Rattle.scp_header.specs.HeaderFault.{headFault}
 use Rattle.refusals.proofs.Finding.{Each}
-use Rattle.scp_open.specs.Tracks.{durationAt, trackFaultAt, trackFault, tracksFault}
+use Rattle.scp_tracks.specs.Tracks.{durationAt, trackFaultAt, trackFault, tracksFault}
 use Rattle.scp_open.specs.Opening.{openFault}
-use Rattle.scp.specs.Durations.{longestFrom}
-use Rattle.scp.specs.Questions.{validateFault, trackThen, trackQuestion, revolutionThen, revolutionQuestion}
+use Rattle.scp_speed.specs.Durations.{longestFrom}
+use Rattle.scp_lookup.specs.Questions.{trackThen, trackQuestion, revolutionThen, revolutionQuestion}
+use Rattle.scp.specs.Validating.{validateFault}
 use Rattle.scp.specs.Answers as answers
 use Rattle.scp.specs.Answers.{Answer, numbers, bytes, unless, headerAnswer, footerValues, footerAnswer, trackAnswer, revolutionAnswer, fluxPart, speedAnswer, trackSpeedValues, trackSpeedAnswer}
 use Rattle.scp_rewrite.specs.Rewriting.{wordsThenShared, rewriteFault}

@@ -21,13 +21,13 @@ use refusals::Refusal;
 use scp::FooterAnswer;
 use scp::FooterData;
 use scp::HeaderAnswer;
-use scp::RevolutionAnswer;
 use scp::SpeedAnswer;
 use scp::TrackAnswer;
 use scp::TrackSpeedAnswer;
 use scp::Validated;
-use scp_open::Speed;
+use scp_lookup::RevolutionAnswer;
 use scp_rewrite::Rewritten;
+use scp_speed::Speed;
 use sequence::Replayed;
 
 // The refusal of too few places (01), by number: at position 0 it is its own code.

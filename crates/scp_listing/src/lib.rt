@@ -5,9 +5,9 @@ use flux::Cursor;
 use flux::Step;
 use refusals::Refusal;
 use scp::HeaderAnswer;
-use scp::RevolutionAnswer;
 use scp::TrackAnswer;
 use scp::Validated;
+use scp_lookup::RevolutionAnswer;
 
 fn text(s: &[u8]) {
     io::write_all(1, s);

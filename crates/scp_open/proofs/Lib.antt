@@ -1,4 +1,3 @@
 pub mod Table
 pub mod Opens
 pub mod OpenLaws
-pub mod RevolutionLaws

@@ -5,7 +5,7 @@ use mathlib.Core.List.{List}
 use borrow.Author.Tests.{eq-eqb, ne-eqb}
 use Rattle.refusals.specs.declared.Refusal.{Refusal}
 use Rattle.scp_header.specs.HeaderFault.{headFault}
-use Rattle.scp_open.specs.Tracks.{tracksFault}
+use Rattle.scp_tracks.specs.Tracks.{tracksFault}
 use Rattle.scp_open.specs.Opening.{openFault, openedImage, refusedImage, openedOf}
 use Rattle.refusals.proofs.Chain.{first-here, first-next}
 

@@ -12,11 +12,11 @@ use borrow.Author.Tests.{ltb-false, le-ltb, eqb-true, eqb-false, eq-eqb, ne-eqb,
 use Rattle.refusals.specs.declared.Refusal.{Refusal}
 use Rattle.octets.specs.Numbers.{byteAt, le16At}
 use Rattle.refusals.specs.Refusals.{none}
-use Rattle.scp_fields.specs.Header.{tableEnd, sizeLimit, trackSlots, mostRevolutions, revolutions, startTrack, endTrack, readWrite, hasFooter, width, heads, trackEntry, dataEnd}
+use Rattle.scp_fields.specs.Header.{tableEnd, sizeLimit, trackSlots, lastTrack, mostRevolutions, revolutions, startTrack, endTrack, readWrite, hasFooter, width, heads, trackEntry, dataEnd}
 use Rattle.scp_header.specs.HeaderTests.{badSize, badSign, badWidth, badRevolutions, badSpan, badHeads}
-use Rattle.scp_fields.specs.Footer.{footerAt, stringSlots, stringEntry}
+use Rattle.scp_fields.specs.Footer.{footerAt, footerLeast, stringSlots, stringEntry}
 use Rattle.scp_header.specs.Footer.{badFooter, zeroAt, zeroWithin, badStringOf, badString, stringFaultAt, stringFault, stringsFault, footerFault}
-use Rattle.scp_open.specs.Tracks.{headOf, headerSize, badSlot, badMark, fluxPast, badFlux, trackFaultAt, trackFault, tracksFault}
+use Rattle.scp_tracks.specs.Tracks.{headOf, headerSize, badSlot, badMark, badTrack, fluxPast, badFlux, trackFaultAt, trackFault, tracksFault}
 use Rattle.scp_header.specs.HeaderFault.{headFault}
 use Rattle.scp_open.specs.Opening.{openFault}
 use Rattle.scp_open.specs.Validity.{StringHolds, FooterHolds, TrackHolds, Opens, OpensExactly}
@@ -94,12 +94,12 @@ module _ (b : List ℕ) where
   unfolding footerFault
   footer-good e f =
       let footer = not-refused (badFooter b) 6 0 _ e in
-      let room = neither (ltb (length b) 736) _ (not-both (hasFooter b) _ (footer .0) f) in
+      let room = neither (ltb (length b) footerLeast) _ (not-both (hasFooter b) _ (footer .0) f) in
       let sign = neither (not footerSigned) _ (room .1) in
       let first = marked _ 0x46 _ (not-false footerSigned (sign .0)) in
       let others = three-marked _ 0x50 _ 0x43 _ 0x53 (first .1) in
       record {
-        room = ltb-false _ 736 (room .0);
+        room = ltb-false _ footerLeast (room .0);
         sign = (first .0, others .0, others .1, others .2);
         version = ltb-false _ 0x16 (sign .1);
         strings = strings-hold b .0 (not-excused (not (hasFooter b)) _ (footer .1) (simp f));
@@ -111,7 +111,7 @@ module _ (b : List ℕ) where
       pass (badFooter b) _ _ (never-both (hasFooter b) _ (λ f. whole (hold f)))
       (excuse (not (hasFooter b)) _ (λ f. strings-hold b .1 (hold (not-false _ f) .strings)))
     where
-      whole : FooterHolds b → ltb (length b) 736 || (not footerSigned || ltb (byteAt b (footerAt b + 0x2B)) 0x16) ≡ false
+      whole : FooterHolds b → ltb (length b) footerLeast || (not footerSigned || ltb (byteAt b (footerAt b + 0x2B)) 0x16) ≡ false
       whole h = simp (le-ltb _ _ (h .room), h .sign .0, h .sign .1, h .sign .2, h .sign .3, le-ltb _ _ (h .version))
 
   pub footer-holds : (footerFault b .number ≡ 0) ↔ (hasFooter b ≡ true → FooterHolds b)
@@ -121,17 +121,17 @@ module _ (b : List ℕ) where
 
 module _ (b : List ℕ) (e t : ℕ) where
   track-good : trackFaultAt b e t .number ≡ 0 → e ≢ 0 → TrackHolds b e t
-  unfolding trackFaultAt
+  unfolding trackFaultAt badTrack
   track-good z n =
       let slot = not-refused (badSlot b t) 8 t _ (not-excused (eqb e 0) _ z (ne-eqb e 0 n)) in
-      let low = not-refused (ltb e tableEnd) 9 t _ (slot .1) in
-      let high = not-refused (ltb (dataEnd b) (e + headerSize b)) 9 t _ (low .1) in
-      let mark = not-refused (badMark b e t) 9 t _ (high .1) in
-      let flux = not-refused (badFlux b e) 10 t none (mark .1) .0 in
+      let track = not-refused (badTrack b e t) 9 t _ (slot .1) in
+      let flux = not-refused (badFlux b e) 10 t none (track .1) .0 in
+      let low = neither (ltb e tableEnd) _ (track .0) in
+      let high = neither (ltb (dataEnd b) (e + headerSize b)) (badMark b e t) (low .1) in
       let from = neither (ltb t (startTrack b)) _ (slot .0) in
       let to = neither (ltb (endTrack b) t) _ (from .1) in
       let side = neither (eqb (heads b) 1 && eqb (headOf t) 1) _ (to .1) in
-      let first = marked (byteAt b e) 0x54 _ (not-false _ (mark .0)) in
+      let first = marked (byteAt b e) 0x54 _ (not-false _ (high .1)) in
       let others = three-marked (byteAt b (e + 1)) 0x52 (byteAt b (e + 2)) 0x4B (byteAt b (e + 3)) t (first .1) in
       record {
         from = ltb-false _ (startTrack b) (from .0);
@@ -146,17 +146,15 @@ module _ (b : List ℕ) (e t : ℕ) where
       }
 
   good-track : (e ≢ 0 → TrackHolds b e t) → trackFaultAt b e t .number ≡ 0
-  unfolding trackFaultAt
+  unfolding trackFaultAt badTrack
   good-track hold =
       excuse (eqb e 0) _ (λ n.
       let h = hold (eqb-false e 0 n) in
       let even : eqb (heads b) 1 && eqb (headOf t) 1 ≡ false = never-both _ _ (λ q. simp (h .even (eqb-true _ _ q))) in
       let odd : eqb (heads b) 2 && eqb (headOf t) 0 ≡ false = never-both _ _ (λ q. simp (h .odd (eqb-true _ _ q))) in
       pass (badSlot b t) _ _ (simp (le-ltb _ _ (h .from), le-ltb _ _ (h .to), even, odd))
-      (pass (ltb e tableEnd) _ _ (le-ltb _ _ (h .above))
-      (pass (ltb (dataEnd b) (e + headerSize b)) _ _ (le-ltb _ _ (h .below))
-      (pass (badMark b e t) _ _ (simp (h .sign .0, h .sign .1, h .sign .2, eq-eqb _ _ (h .number)))
-      (pass (badFlux b e) _ none (none-from (fluxPast b e) 0 (revolutions b) (λ k a z. le-ltb _ _ (h .flux k (omega arith)))) refl)))))
+      (pass (badTrack b e t) _ _ (simp (le-ltb _ _ (h .above), le-ltb _ _ (h .below), h .sign .0, h .sign .1, h .sign .2, eq-eqb _ _ (h .number)))
+      (pass (badFlux b e) _ none (none-from (fluxPast b e) 0 (revolutions b) (λ k a z. le-ltb _ _ (h .flux k (omega arith)))) refl)))
 
   pub track-holds : (trackFaultAt b e t .number ≡ 0) ↔ (e ≢ 0 → TrackHolds b e t)
   track-holds = (track-good, good-track)
@@ -191,7 +189,7 @@ module _ (b : List ℕ) where
         revolutionsMost = ltb-false mostRevolutions _ (few .0);
         readWriteOne = λ w. eqb-true _ 1 (not-false _ (not-both (readWrite b) _ (few .1) w));
         span = ltb-false _ (startTrack b) (ends .0);
-        spanEnd = let h = ltb-false 167 (endTrack b) (ends .1) in omega arith;
+        spanEnd = let h = ltb-false lastTrack (endTrack b) (ends .1) in omega arith;
         sides = ltb-false 2 _ (sides .0);
         footer = footer-holds b .0 (sides .1);
         tracks = tracks-hold b .0 (found .1);
@@ -201,7 +199,7 @@ module _ (b : List ℕ) where
   unfolding openFault headFault badSize
   clears h =
       let turns : readWrite b && not (eqb (revolutions b) 1) ≡ false = never-both (readWrite b) _ (λ w. simp (h .readWriteOne w)) in
-      let last : endTrack b ≤ 167 = omega arith in
+      let last : endTrack b ≤ lastTrack = omega arith in
       clear-both (headFault b) (tracksFault b)
       (pass (badSize b) _ _ (simp (le-ltb _ _ (h .least), le-ltb _ _ (h .most)))
       (pass (badSign b) _ _ (simp (h .sign .0, h .sign .1, h .sign .2))

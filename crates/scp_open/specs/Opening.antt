@@ -4,11 +4,10 @@ use mathlib.Core.List.{List}
 use mathlib.Core.Bool.{cond}
 use lib.ListN.{replicate}
 use Rattle.refusals.specs.declared.Refusal.{Refusal}
-use Rattle.octets.specs.Numbers.{byteAt}
 use Rattle.refusals.specs.Refusals.{passes, firstOf}
-use Rattle.scp_fields.specs.Header.{trackSlots, revolutions, startTrack, endTrack, flags, width, heads, storedSum, entries}
+use Rattle.scp_fields.specs.Header.{trackSlots, version, disk, revolutions, startTrack, endTrack, flags, width, heads, storedSum, entries}
 use Rattle.scp_header.specs.HeaderFault.{headFault}
-use Rattle.scp_open.specs.Tracks.{tracksFault}
+use Rattle.scp_tracks.specs.Tracks.{tracksFault}
 use Rattle.scp_open.specs.declared.Header.{Header}
 use Rattle.scp_open.specs.declared.Opened.{Opened}
 
@@ -20,8 +19,8 @@ openFault b = firstOf (headFault b) (tracksFault b)
 unfoldable pub headerOf : List ℕ → Header
 headerOf b =
     record {
-      version = byteAt b 0x03;
-      disk = byteAt b 0x04;
+      version = version b;
+      disk = disk b;
       revolutions = revolutions b;
       start = startTrack b;
       end = endTrack b;

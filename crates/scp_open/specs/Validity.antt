@@ -9,8 +9,8 @@ use lib.ListN.{length}
 use Rattle.octets.specs.Numbers.{byteAt, le16At}
 use Rattle.refusals.specs.Refusals.{none}
 use Rattle.scp_fields.specs.Header.{sizeLimit, tableEnd, trackSlots, mostRevolutions, revolutions, startTrack, endTrack, readWrite, hasFooter, width, heads, trackEntry, dataEnd}
-use Rattle.scp_fields.specs.Footer.{footerAt, stringSlots, stringEntry}
-use Rattle.scp_open.specs.Tracks.{headOf, headerSize, countAt, fluxAt}
+use Rattle.scp_fields.specs.Footer.{footerAt, footerLeast, stringSlots, stringEntry}
+use Rattle.scp_tracks.specs.Tracks.{headOf, headerSize, countAt, fluxAt}
 use Rattle.scp_open.specs.Opening.{openFault}
 
 -- A string at offset o is well placed and well formed.
@@ -22,7 +22,7 @@ pub record StringHolds (b : List ℕ) (o : ℕ) : Type 0 where
 
 -- The footer is there whole, with "FPCS", version 0x16 or later, and every present string holds.
 pub record FooterHolds (b : List ℕ) : Type 0 where
-  pub room : 736 ≤ length b
+  pub room : footerLeast ≤ length b
   pub sign :
       (byteAt b (footerAt b + 0x2C) ≡ 0x46) × (byteAt b (footerAt b + 0x2D) ≡ 0x50) × (byteAt b (footerAt b + 0x2E) ≡ 0x43)
       × (byteAt b (footerAt b + 0x2F) ≡ 0x53)

@@ -13,11 +13,11 @@ use Rattle.flux.specs.Coding.{fluxLimit, badFluxSize}
 use Rattle.refusals.specs.Refusals.{none, refusal, passes, refuseIf, firstOf}
 use Rattle.scp_fields.specs.Header.{trackSlots, revolutions, trackEntry}
 use Rattle.refusals.proofs.Finding.{neither, not-refused, both-clear}
-use Rattle.scp_open.specs.Tracks.{countAt, fluxAt}
+use Rattle.scp_tracks.specs.Tracks.{countAt, fluxAt}
 use Rattle.scp_open.specs.Opening.{openFault}
 use Rattle.scp_open.specs.Validity.{Opens}
 use Rattle.scp_open.proofs.Opens.{opens, clears}
-use Rattle.scp.specs.Questions.{trackThen, revolutionThen, revolutionQuestion}
+use Rattle.scp_lookup.specs.Questions.{trackThen, revolutionThen, revolutionQuestion}
 use Rattle.scp_rewrite.specs.Extents.{extent, In}
 use Rattle.scp_rewrite.specs.Claims.{standAt, shared}
 use Rattle.scp_rewrite.specs.Rewriting.{badWords, wordsThenShared, rewriteFault}

@@ -14,7 +14,7 @@ use Rattle.octets.specs.Numbers.{byteAt, Octets, le32At, leBytes}
 use Rattle.octets.specs.Sums.{byteSum}
 use Rattle.octets.proofs.Numbers.{Apart, byte-apart, byte-inside, drop-sets, le-same, le-apart, le-length, le-read-same, le-octets, sets-octets}
 use Rattle.scp_fields.specs.Header.{readWrite, storedSum, trueSum, trackEntry}
-use Rattle.scp_open.specs.Tracks.{revolutionAt, durationAt, countAt, fluxAt}
+use Rattle.scp_tracks.specs.Tracks.{revolutionAt, durationAt, countAt, fluxAt}
 use Rattle.scp_rewrite.specs.Extents.{extent, In}
 use Rattle.scp_rewrite.specs.Rewriting.{patched, moved, summed, rewritten}
 use Rattle.scp_rewrite.specs.Steps.{Patchable}

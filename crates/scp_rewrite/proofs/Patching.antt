@@ -11,7 +11,7 @@ use borrow.Author.Tests.{le-leb}
 use Rattle.octets.specs.Numbers.{leBytes, putAt}
 use Rattle.octets.proofs.Numbers.{le-length}
 use Rattle.scp_fields.specs.Header.{readWrite, storedSum, trueSum}
-use Rattle.scp_open.specs.Tracks.{revolutionAt, distanceAt}
+use Rattle.scp_tracks.specs.Tracks.{revolutionAt, distanceAt}
 use Rattle.scp_rewrite.specs.Rewriting.{patched, moved, movedSum, summed}
 use Rattle.scp_rewrite.specs.Steps.{Patchable, Stored}
 use Rattle.scp_rewrite.proofs.Moving.{Moved, moved-next, moved-end}

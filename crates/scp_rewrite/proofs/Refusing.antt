@@ -14,13 +14,13 @@ use Rattle.refusals.specs.Refusals.{refusal, passes}
 use Rattle.scp_fields.specs.Header.{trackSlots, revolutions, trackEntry, entries}
 use Rattle.refusals.proofs.Chain.{refuse-here, refuse-next, first-here, first-next}
 use Rattle.scp_open.specs.Opening.{openFault, openedImage, refusedImage, openedOf}
-use Rattle.scp_open.specs.Revolutions.{dataOf, revolutionOf}
+use Rattle.scp_tracks.specs.Revolutions.{dataOf, revolutionOf}
 use Rattle.scp_open.specs.declared.Opened.{Opened}
-use Rattle.scp_open.specs.declared.Revolution.{Revolution}
-use Rattle.scp_open.specs.declared.Revolution.the-variants.{Absent, Present}
-use Rattle.scp_open.specs.declared.RevolutionData.{RevolutionData}
+use Rattle.scp_tracks.specs.declared.Revolution.{Revolution}
+use Rattle.scp_tracks.specs.declared.Revolution.the-variants.{Absent, Present}
+use Rattle.scp_tracks.specs.declared.RevolutionData.{RevolutionData}
 use Rattle.scp_open.proofs.Table.{list-at}
-use Rattle.scp.specs.Questions.{trackThen}
+use Rattle.scp_lookup.specs.Questions.{trackThen}
 use Rattle.scp_rewrite.specs.Rewriting.{wordsThenShared, rewriteFault}
 
 -- ---- what opening answered

@@ -13,7 +13,7 @@ use Rattle.refusals.specs.Search.{anyFrom}
 use Rattle.scp_fields.specs.Header.{tableEnd, trackSlots, footerSize, revolutions, hasFooter, trackEntry}
 use Rattle.scp_fields.specs.Footer.{footerAt, stringSlots, stringEntry}
 use Rattle.refusals.proofs.Finding.{either, any-true, any-intro}
-use Rattle.scp_open.specs.Tracks.{headerSize, revolutionAt}
+use Rattle.scp_tracks.specs.Tracks.{headerSize, revolutionAt}
 use Rattle.scp_rewrite.specs.Extents.{extent, meets, In}
 use Rattle.scp_rewrite.specs.Claims.{fluxExtent, standAt, hit, fluxHit, headerHit, trackHit, trackHitAt, stringExtent, stringHit, stringHitAt, footerHit, claimed, shared}
 use Rattle.scp_rewrite.specs.Sharing.{Present, InNumbers, InHeader, Stands, Claimed, front, ownHeader, otherHeader, otherFlux, footer, string, ClaimedTwice, byOthers, byItself, SharedExactly}

@@ -7,7 +7,7 @@ use Rattle.octets.specs.Numbers.{le16At}
 use Rattle.refusals.specs.Search.{anyFrom}
 use Rattle.scp_fields.specs.Header.{tableEnd, trackSlots, footerSize, revolutions, hasFooter, trackEntry}
 use Rattle.scp_fields.specs.Footer.{footerAt, stringSlots, stringEntry}
-use Rattle.scp_open.specs.Tracks.{headerSize, revolutionAt, countAt, fluxAt}
+use Rattle.scp_tracks.specs.Tracks.{headerSize, revolutionAt, countAt, fluxAt}
 use Rattle.scp_rewrite.specs.Extents.{extent, meets}
 use Rattle.scp_rewrite.specs.declared.Extent.{Extent}
 use Rattle.scp_rewrite.specs.declared.Stand.{Stand}

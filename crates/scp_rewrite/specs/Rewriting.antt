@@ -10,8 +10,8 @@ use Rattle.flux.specs.Coding.{badFluxSize}
 use Rattle.octets.specs.Numbers.{leBytes}
 use Rattle.refusals.specs.Refusals.{none, refusal, passes, refuseIf}
 use Rattle.scp_fields.specs.Header.{readWrite, storedSum, trueSum, trackEntry}
-use Rattle.scp_open.specs.Tracks.{revolutionAt, countAt, fluxAt}
-use Rattle.scp.specs.Questions.{revolutionThen}
+use Rattle.scp_tracks.specs.Tracks.{revolutionAt, countAt, fluxAt}
+use Rattle.scp_lookup.specs.Questions.{revolutionThen}
 use Rattle.scp_rewrite.specs.Claims.{standAt, shared}
 
 -- 17 Words, of n bytes for a revolution of `words` words: "flux given has an odd number of bytes or above 268,435,456, or new flux more

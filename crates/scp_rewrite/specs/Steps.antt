@@ -7,7 +7,7 @@ use lib.ListN.{length, take, drop}
 use lib.Seq.{sets}
 use Rattle.octets.specs.Sums.{byteSum}
 use Rattle.scp_fields.specs.Header.{tableEnd, sizeLimit, trackSlots, mostRevolutions, revolutions, trackEntry}
-use Rattle.scp_open.specs.Tracks.{headerSize, revolutionAt, fluxAt}
+use Rattle.scp_tracks.specs.Tracks.{headerSize, revolutionAt, fluxAt}
 use Rattle.scp_rewrite.specs.declared.Extent.{Extent}
 use Rattle.scp_rewrite.specs.declared.Stand.{Stand}
 

@@ -9,14 +9,14 @@ ghost use Rattle.octets.specs.Numbers.{le16At, le32At, leBytes};
 ghost use Rattle.refusals.specs.Search.{anyFrom};
 ghost use Rattle.scp_fields.specs.Header.{tableEnd, trackSlots, revolutions, storedSum, entries};
 ghost use Rattle.scp_fields.specs.Footer.{stringSlots};
-ghost use Rattle.scp_open.specs.Tracks.{revolutionAt, countAt};
+ghost use Rattle.scp_tracks.specs.Tracks.{revolutionAt, countAt};
 ghost use Rattle.scp_rewrite.specs.Extents.{meets};
 ghost use Rattle.scp_rewrite.specs.Claims.{fluxExtent, standAt, hit, fluxHit, headerHit, trackHit, trackHitAt, stringHit, stringHitAt, footerHit, shared};
 ghost use Rattle.scp_rewrite.specs.Rewriting.{badWords, wordsThenShared, rewriteFault, patched, movedSum, summed, afterRewrite};
 ghost use Rattle.scp_rewrite.specs.Answering.{ofRewritten, rewriteAnswer};
 ghost use Rattle.scp_rewrite.specs.Steps.{Small, Placed, Inside, Walkable, Patchable, Stored};
 use refusals::Refusal;
-use scp_open::Revolution;
+use scp_tracks::Revolution;
 
 // Where revolutions per track, flags, checksum and table stand in the header, and where the table ends.
 const REVOLUTIONS: usize = 5;
@@ -340,7 +340,7 @@ fn rewrite_fault(image: &[u8], track: u32, revolution: u32, words: &[u8]) -> Ref
     if entry == 0 {
         return refusals::refuse(refusals::ABSENT, 0);
     }
-    let Revolution::Present(data) = scp_open::revolution_at(image, entry, revolution) else {
+    let Revolution::Present(data) = scp_tracks::revolution_at(image, entry, revolution) else {
         return refusals::refuse(refusals::REVOLUTION, 0);
     };
     words_fault(

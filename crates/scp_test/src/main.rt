@@ -4,11 +4,11 @@ use flux::Filled;
 use refusals::Refusal;
 use scp::FooterAnswer;
 use scp::HeaderAnswer;
-use scp::RevolutionAnswer;
 use scp::SpeedAnswer;
 use scp::TrackAnswer;
 use scp::TrackSpeedAnswer;
-use scp_open::Speed;
+use scp_lookup::RevolutionAnswer;
+use scp_speed::Speed;
 
 fn text(s: &[u8]) {
     io::write_all(1, s);

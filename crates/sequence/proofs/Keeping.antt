@@ -15,7 +15,7 @@ use Rattle.octets.specs.Numbers.{byteAt, le16At}
 use Rattle.octets.proofs.Numbers.{Agree, le-same}
 use Rattle.scp_fields.specs.Header.{trackSlots, footerSize, revolutions, readWrite, hasFooter, trackEntry, dataEnd}
 use Rattle.scp_fields.specs.Footer.{footerAt, stringSlots, stringEntry}
-use Rattle.scp_open.specs.Tracks.{revolutionAt, durationAt, countAt, fluxAt}
+use Rattle.scp_tracks.specs.Tracks.{revolutionAt, durationAt, countAt, fluxAt}
 use Rattle.scp_open.specs.Validity.{StringHolds, FooterHolds, TrackHolds, Opens}
 use Rattle.scp_rewrite.specs.Extents.{extent, In}
 use Rattle.scp_rewrite.specs.Sharing.{Present, InNumbers, InHeader, Claimed, front, ownHeader, otherHeader, otherFlux, footer, string}

@@ -8,10 +8,10 @@ use lib.Ieee.{Float, nan, inf, fin, Format, binary64, prec, emax, low, up, down,
 use mathlib.Core.List.{List}
 use Rattle.refusals.specs.Refusals.{passes}
 use Rattle.scp_fields.specs.Header.{revolutions, trackEntry}
-use Rattle.scp_open.specs.Tracks.{durationAt}
-use Rattle.scp_open.specs.Speeds.{rpmOf}
-use Rattle.scp.specs.Questions.{trackQuestion, revolutionQuestion}
-use Rattle.scp.specs.Durations.{longestFrom}
+use Rattle.scp_tracks.specs.Tracks.{durationAt}
+use Rattle.scp_speed.specs.Speeds.{rpmOf}
+use Rattle.scp_lookup.specs.Questions.{trackQuestion, revolutionQuestion}
+use Rattle.scp_speed.specs.Durations.{longestFrom}
 use Rattle.scp.specs.Answers.{Answer, none, speedAnswer, trackSpeedValues, trackSpeedAnswer}
 use Rattle.sequence.specs.Rows.{Real}
 

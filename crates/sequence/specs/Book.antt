@@ -7,8 +7,8 @@ use lib.ListN.{length, take, drop}
 use lib.Dec.{eqb}
 use Rattle.refusals.specs.Refusals.{passes}
 use Rattle.scp_fields.specs.Header.{trackEntry}
-use Rattle.scp_open.specs.Tracks.{durationAt, countAt, fluxAt}
-use Rattle.scp.specs.Questions.{revolutionQuestion}
+use Rattle.scp_tracks.specs.Tracks.{durationAt, countAt, fluxAt}
+use Rattle.scp_lookup.specs.Questions.{revolutionQuestion}
 use Rattle.scp.specs.Answers.{Answer, numbers, bytes, unless, validateAnswer, headerAnswer, footerAnswer, trackAnswer, revolutionAnswer, fluxPart, speedAnswer, trackSpeedAnswer}
 use Rattle.scp_rewrite.specs.Rewriting.{rewriteFault, afterRewrite}
 

@@ -8,9 +8,9 @@ use lib.ListN.{length, take, drop}
 use Rattle.octets.specs.Numbers.{byteAt, Octets}
 use Rattle.refusals.specs.Refusals.{none, refusal, passes}
 use Rattle.scp_fields.specs.Header.{revolutions, readWrite, storedSum, trueSum, trackEntry}
-use Rattle.scp_open.specs.Tracks.{durationAt, countAt, fluxAt}
+use Rattle.scp_tracks.specs.Tracks.{durationAt, countAt, fluxAt}
 use Rattle.scp_open.specs.Opening.{openFault}
-use Rattle.scp.specs.Questions.{revolutionQuestion}
+use Rattle.scp_lookup.specs.Questions.{revolutionQuestion}
 use Rattle.scp_rewrite.specs.Extents.{extent, In}
 use Rattle.scp_rewrite.specs.Rewriting.{badWords, rewriteFault}
 use Rattle.scp_rewrite.specs.Sharing.{Present, InNumbers, ClaimedTwice}

@@ -12,13 +12,13 @@ use refusals::Refusal;
 use scp::FooterAnswer;
 use scp::FooterData;
 use scp::HeaderAnswer;
-use scp::RevolutionAnswer;
 use scp::SpeedAnswer;
 use scp::TrackAnswer;
 use scp::TrackSpeedAnswer;
 use scp::Validated;
-use scp_open::Speed;
+use scp_lookup::RevolutionAnswer;
 use scp_rewrite::Rewritten;
+use scp_speed::Speed;
 
 // Whether the calls were made.
 pub enum Replayed {

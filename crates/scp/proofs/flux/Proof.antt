@@ -3,9 +3,9 @@ use mathlib.Core.Path.{sym, ap, _∙_}
 use Prim.Native.Nat.{ℕ, _+_}
 use native.Mathlib.Nat.{zero-add}
 use borrow.Author.Needs.{needs}
-use Rattle.scp.specs.declared.RevolutionAnswer.{RevolutionAnswer}
+use Rattle.scp_lookup.specs.declared.RevolutionAnswer.{RevolutionAnswer}
 use Rattle.scp.specs.Answers.{partOf, startOf}
-use Rattle.scp.proofs.FoundLaws.{found-data, flux-within}
+use Rattle.scp_lookup.proofs.FoundLaws.{found-data, flux-within}
 use Rattle.scp.proofs.flux.Statement.{statement}
 use Rattle.scp.proofs.flux.Tie as tie
 

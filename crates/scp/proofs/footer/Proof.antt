@@ -1,10 +1,9 @@
 -- The footer of an image that opens is read where it is flagged.
 use mathlib.Core.Path.{sym, _∙_}
-use native.Mathlib.Omega.{arith}
 use borrow.Author.Needs.{needs}
-use borrow.Author.Tests.{eq-eqb, ne-eqb}
 use Rattle.scp.specs.Answers.{footerAnswer}
-use Rattle.scp.proofs.Asking.{opened-fault, opened-number, open-least, unless-refused, unless-passes}
+use Rattle.scp_lookup.proofs.Asking.{opened-fault, opened-number, open-least}
+use Rattle.scp.proofs.Answering.{unless-refused, unless-passes}
 use Rattle.scp.proofs.footer.Statement.{statement}
 use Rattle.scp.proofs.footer.Tie as tie
 
@@ -17,13 +16,8 @@ returns c =
     let at-open = c .before .before .before in
     unless-refused _ _ (opened-fault _ (at-open .«open» .ensures)) (c .if1 .taken)
 
-shared-slice-read-if2 : tie.Need-shared-slice-read-if2
-shared-slice-read-if2 c =
-    let at-else = c .before in
-    let at-open = at-else .before .before .before in
-    let opens = sym (opened-number _ (at-open .«open» .ensures)) ∙ at-else .if1 .left in
-    let least = open-least _ opens in
-    omega arith
+has-footer-requires : tie.Need-has-footer-requires
+has-footer-requires c κs = search needs
 
 read-footer-requires : tie.Need-read-footer-requires
 read-footer-requires c κs =
@@ -38,7 +32,7 @@ returns-2 c =
     let at-else = c .before .before .before in
     let at-open = at-else .before .before .before in
     let opens = sym (opened-number _ (at-open .«open» .ensures)) ∙ at-else .if1 .left in
-    unless-passes _ _ opens (c .read-footer .ensures ∙ sym (simp (eq-eqb _ _ (c .before .if2 .taken))))
+    unless-passes _ _ opens (c .read-footer .ensures ∙ sym (simp (sym (c .before .before .has-footer .ensures) ∙ c .before .if2 .taken)))
 
 returns-3 : tie.Need-returns-3
 unfolding footerAnswer
@@ -46,9 +40,9 @@ returns-3 c =
     let at-else = c .before .before in
     let at-open = at-else .before .before .before in
     let opens = sym (opened-number _ (at-open .«open» .ensures)) ∙ at-else .if1 .left in
-    unless-passes _ _ opens (sym (simp (ne-eqb _ _ (c .if2 .left))))
+    unless-passes _ _ opens (sym (simp (sym (c .before .has-footer .ensures) ∙ c .if2 .left)))
 
 pub footer-spec : {M : Type 1} → statement M
 footer-spec =
     tie.close
-    (tie.spec open-requires returns shared-slice-read-if2 read-footer-requires returns-2 returns-3)
+    (tie.spec open-requires returns has-footer-requires read-footer-requires returns-2 returns-3)

@@ -4,7 +4,8 @@ use borrow.Author.Needs.{needs}
 use Rattle.scp_open.specs.declared.Header.{Header}
 use Rattle.scp_open.specs.Opening.{headerOf}
 use Rattle.scp.specs.Answers.{numbers, headerNumbers, headerAnswer}
-use Rattle.scp.proofs.Asking.{opened-fault, opened-number, opened-header, unless-refused, unless-passes}
+use Rattle.scp_lookup.proofs.Asking.{opened-fault, opened-number, opened-header}
+use Rattle.scp.proofs.Answering.{unless-refused, unless-passes}
 use Rattle.scp.proofs.header.Statement.{statement}
 use Rattle.scp.proofs.header.Tie as tie
 

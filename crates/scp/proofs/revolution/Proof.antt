@@ -2,7 +2,7 @@
 use mathlib.Core.Path.{ap, _∙_}
 use borrow.Author.Needs.{needs}
 use Rattle.scp.specs.Answers.{ofRevolution}
-use Rattle.scp.proofs.FoundLaws.{answer-is}
+use Rattle.scp.proofs.Answering.{answer-is}
 use Rattle.scp.proofs.revolution.Statement.{statement}
 use Rattle.scp.proofs.revolution.Tie as tie
 

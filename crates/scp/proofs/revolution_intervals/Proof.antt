@@ -4,10 +4,10 @@ use Prim.Native.Nat.{ℕ}
 use mathlib.Core.List.{List}
 use lib.ListN.{length}
 use borrow.Author.Needs.{needs}
-use Rattle.scp.specs.declared.RevolutionAnswer.{RevolutionAnswer}
+use Rattle.scp_lookup.specs.declared.RevolutionAnswer.{RevolutionAnswer}
 use Rattle.flux.specs.Answers.{answerOf, bufferAfter, reading}
 use Rattle.scp.specs.Answers.{intervalsOf}
-use Rattle.scp.proofs.FoundLaws.{found-data, flux-within}
+use Rattle.scp_lookup.proofs.FoundLaws.{found-data, flux-within}
 use Rattle.scp.proofs.revolution_intervals.Statement.{statement}
 use Rattle.scp.proofs.revolution_intervals.Tie as tie
 

@@ -2,11 +2,11 @@
 use mathlib.Core.Path.{sym, ap, _∙_}
 use Prim.Native.Nat.{ℕ}
 use borrow.Author.Needs.{needs}
-use Rattle.scp_open.specs.declared.RevolutionData.{RevolutionData}
-use Rattle.scp_open.specs.Speeds.{speedOf}
+use Rattle.scp_tracks.specs.declared.RevolutionData.{RevolutionData}
+use Rattle.scp_speed.specs.Speeds.{speedOf}
 use Rattle.scp.specs.Answers.{ofSpeedOnly, speedAnswer}
-use Rattle.scp.proofs.Asking.{unless-refused, unless-passes, speed-is}
-use Rattle.scp.proofs.FoundLaws.{found-data, found-refused, revolution-passes}
+use Rattle.scp.proofs.Answering.{unless-refused, unless-passes, speed-is}
+use Rattle.scp_lookup.proofs.FoundLaws.{found-data, found-refused, revolution-passes}
 use Rattle.scp.proofs.speed.Statement.{statement}
 use Rattle.scp.proofs.speed.Tie as tie
 

@@ -2,8 +2,9 @@
 use mathlib.Core.Path.{sym, _∙_}
 use borrow.Author.Needs.{needs}
 use Rattle.scp.specs.Answers.{trackAnswer}
-use Rattle.scp.proofs.Asking.{unless-refused, unless-passes, track-passes, track-same}
-use Rattle.scp.proofs.FoundLaws.{found-at, not-found}
+use Rattle.scp_lookup.proofs.Asking.{track-passes}
+use Rattle.scp.proofs.Answering.{unless-refused, unless-passes, track-same}
+use Rattle.scp_lookup.proofs.FoundLaws.{found-at, not-found}
 use Rattle.scp.proofs.track.Statement.{statement}
 use Rattle.scp.proofs.track.Tie as tie
 
@@ -22,8 +23,11 @@ head-requires c κs = search needs
 cast-t9 : tie.Need-cast-t9
 cast-t9 c = search needs
 
-revolutions-of-requires : tie.Need-revolutions-of-requires
-revolutions-of-requires c κs = search needs
+revolutions-requires : tie.Need-revolutions-requires
+revolutions-requires c κs = search needs
+
+cast-t12 : tie.Need-cast-t12
+cast-t12 c = search needs
 
 enum-known-found-2 : tie.Need-enum-known-found-2
 enum-known-found-2 c = search needs
@@ -37,7 +41,7 @@ returns c =
     let at-find = at-found .before .before in
     let there = found-at _ _ (sym (at-found .found .given .1) ∙ at-find .find-track .ensures) in
     unless-passes _ _ (track-passes _ _ (there .present))
-    (track-same (at-cylinder .cylinder .ensures) (at-head .head .ensures) (there .same) (c .revolutions-of .ensures .0))
+    (track-same (at-cylinder .cylinder .ensures) (at-head .head .ensures) (there .same) (c .revolutions .ensures .0))
 
 returns-2 : tie.Need-returns-2
 unfolding trackAnswer
@@ -56,7 +60,8 @@ track-spec =
     cylinder-requires
     head-requires
     cast-t9
-    revolutions-of-requires
+    revolutions-requires
+    cast-t12
     enum-known-found-2
     returns
     returns-2)

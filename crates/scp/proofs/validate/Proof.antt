@@ -2,8 +2,9 @@
 use mathlib.Core.Path.{_≡_, refl, sym, _∙_}
 use borrow.Author.Needs.{needs}
 use Rattle.scp_fields.specs.Header.{storedSum}
-use Rattle.scp.specs.Questions.{wantedSum}
-use Rattle.scp.proofs.Asking.{opened-fault, opened-number, open-least, unless-refused, unless-passes, validate-open, validate-sum, validate-passes, is-refusal}
+use Rattle.scp.specs.Validating.{wantedSum}
+use Rattle.scp_lookup.proofs.Asking.{opened-fault, opened-number, open-least, is-refusal}
+use Rattle.scp.proofs.Answering.{unless-refused, unless-passes, validate-open, validate-sum, validate-passes}
 use Rattle.scp.proofs.validate.Statement.{statement}
 use Rattle.scp.proofs.validate.Tie as tie
 
@@ -15,8 +16,8 @@ returns c =
     let at-open = c .before .before .before in
     unless-refused _ _ (validate-open _ (opened-fault _ (at-open .«open» .ensures)) (c .if1 .taken)) (c .if1 .taken)
 
-le32-requires : tie.Need-le32-requires
-le32-requires c κs = search needs
+checksum-requires : tie.Need-checksum-requires
+checksum-requires c κs = search needs
 
 wanted-sum-requires : tie.Need-wanted-sum-requires
 wanted-sum-requires c κs =
@@ -36,7 +37,7 @@ returns-2 c =
     let at-open = at-else .before .before .before in
     let opens = sym (opened-number _ (at-open .«open» .ensures)) ∙ at-else .if1 .left in
     let b = at-open .before .before .args .image .now in
-    let differs : storedSum b ≡ wantedSum b → ⊥ = λ e. c .before .if2 .taken (at-stored .le32 .ensures ∙ e ∙ sym (at-sum .wanted-sum .ensures)) in
+    let differs : storedSum b ≡ wantedSum b → ⊥ = λ e. c .before .if2 .taken (at-stored .checksum .ensures ∙ e ∙ sym (at-sum .wanted-sum .ensures)) in
     unless-refused _ _ (c .refuse .ensures ∙ validate-sum _ opens differs) (is-refusal 11 (c .refuse .ensures))
 
 returns-3 : tie.Need-returns-3
@@ -46,7 +47,7 @@ returns-3 c =
     let at-else = at-stored .before in
     let at-open = at-else .before .before .before in
     let opens = sym (opened-number _ (at-open .«open» .ensures)) ∙ at-else .if1 .left in
-    let same = sym (at-stored .le32 .ensures) ∙ c .if2 .left ∙ at-sum .wanted-sum .ensures in
+    let same = sym (at-stored .checksum .ensures) ∙ c .if2 .left ∙ at-sum .wanted-sum .ensures in
     unless-passes _ _ (validate-passes _ opens same) refl
 
 pub validate-spec : {M : Type 1} → statement M
@@ -55,7 +56,7 @@ validate-spec =
     (tie.spec
     open-requires
     returns
-    le32-requires
+    checksum-requires
     wanted-sum-requires
     refuse-requires
     returns-2

@@ -6,18 +6,17 @@ use lib.ListN.{length, drop, length-drop}
 use lib.Seq.{take-all}
 use Rattle.octets.specs.Sums.{byteSum}
 use borrow.Author.Needs.{needs}
-use borrow.Author.Tests.{eq-eqb, ne-eqb}
 use Rattle.scp_fields.specs.Header.{trueSum}
-use Rattle.scp.specs.Questions.{wantedSum}
+use Rattle.scp.specs.Validating.{wantedSum}
 use Rattle.scp.proofs.wanted_sum.Statement.{statement}
 use Rattle.scp.proofs.wanted_sum.Tie as tie
 
-shared-slice-read-if1 : tie.Need-shared-slice-read-if1
-shared-slice-read-if1 c = search needs
+is-read-write-requires : tie.Need-is-read-write-requires
+is-read-write-requires c κs = search needs
 
 returns : tie.Need-returns
 unfolding wantedSum trueSum
-returns c = sym (simp (eq-eqb _ _ (c .if1 .taken)))
+returns c = sym (simp (sym (c .before .is-read-write .ensures) ∙ c .if1 .taken))
 
 sub-byte-sum : tie.Need-sub-byte-sum
 sub-byte-sum c = search needs
@@ -37,13 +36,13 @@ returns-2 c =
     let at-else = c .before .before in
     let b = at-else .before .before .before .args .image .now in
     c .byte-sum .ensures ∙ ap byteSum (take-all (length b - 16) (drop 16 b) (omega (arith, length-drop 16 b)))
-    ∙ sym (simp (ne-eqb _ _ (at-else .if1 .left)))
+    ∙ sym (simp (sym (at-else .before .is-read-write .ensures) ∙ at-else .if1 .left))
 
 pub wanted-sum-spec : {M : Type 1} → statement M
 wanted-sum-spec =
     tie.close
     (tie.spec
-    shared-slice-read-if1
+    is-read-write-requires
     returns
     sub-byte-sum
     part-byte-sum-start

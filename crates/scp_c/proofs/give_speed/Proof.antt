@@ -2,7 +2,7 @@
 use mathlib.Core.Path.{sym, ap, _∙_}
 use mathlib.Core.List.{[], _∷_}
 use lib.Ieee.{Float}
-use Rattle.scp_open.specs.declared.Speed.{Speed}
+use Rattle.scp_speed.specs.declared.Speed.{Speed}
 use Rattle.scp.specs.Answers.{ofSpeedOnly}
 use Rattle.scp_c.specs.Boundary.{gives, floatsOf}
 use Rattle.scp_c.proofs.Passing.{pass-values, first-same}

@@ -3,9 +3,10 @@
 use mathlib.Core.Path.{sym, ap, _∙_}
 use Rattle.refusals.specs.Refusals.{passes}
 use Rattle.scp_fields.specs.Header.{trackEntry}
-use Rattle.scp_open.specs.Revolutions.{dataOf}
-use Rattle.scp.specs.Answers.{bytes, ofRevolution, foundRevolution, revolutionAnswer}
-use Rattle.scp.specs.Questions.{revolutionQuestion}
+use Rattle.scp_tracks.specs.Revolutions.{dataOf}
+use Rattle.scp_lookup.specs.Lookups.{foundRevolution}
+use Rattle.scp.specs.Answers.{bytes, ofRevolution, revolutionAnswer}
+use Rattle.scp_lookup.specs.Questions.{revolutionQuestion}
 use Rattle.sequence.specs.Book.{answer}
 use Rattle.sequence.proofs.RowLaws.{flux-found, flux-refused}
 use Rattle.scp_c.specs.Boundary.{numbersOf}

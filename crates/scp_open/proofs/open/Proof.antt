@@ -23,10 +23,7 @@ read-table-requires : tie.Need-read-table-requires
 read-table-requires c κs = search needs
 
 tracks-fault-requires : tie.Need-tracks-fault-requires
-tracks-fault-requires c κs =
-    let at-if1 = c .before .before in
-    let at-head = at-if1 .before .before in
-    (head-least _ (ap (λ (f : Refusal). f .number) (sym (at-head .check-header .ensures)) ∙ at-if1 .if1 .left), c .before .read-table .ensures)
+tracks-fault-requires c κs = c .before .read-table .ensures
 
 refused-image-requires-2 : tie.Need-refused-image-requires-2
 refused-image-requires-2 c κs = search needs
@@ -40,10 +37,7 @@ returns-2 c =
     c .refused-image2 .ensures ∙ opened-refused _ f (c .before .if2 .taken)
 
 read-header-requires : tie.Need-read-header-requires
-read-header-requires c κs =
-    let at-if1 = c .before .before .before .before .before in
-    let at-head = at-if1 .before .before in
-    head-least _ (ap (λ (f : Refusal). f .number) (sym (at-head .check-header .ensures)) ∙ at-if1 .if1 .left)
+read-header-requires c κs = search needs
 
 returns-3 : tie.Need-returns-3
 returns-3 c =

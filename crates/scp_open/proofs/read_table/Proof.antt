@@ -3,28 +3,25 @@ use mathlib.Core.Path.{_≡_, refl}
 use Prim.Native.Nat.{_-_, _≤_}
 use lib.ListN.{length}
 use borrow.Author.Needs.{needs}
-use Rattle.scp_fields.specs.Header.{trackEntry}
+use Rattle.scp_fields.specs.Header.{trackSlots, trackEntry}
 use Rattle.scp_open.proofs.Table.{Filled, fill-none, fill-next, fill-end}
 use Rattle.scp_open.proofs.read_table.Statement.{statement}
 use Rattle.scp_open.proofs.read_table.Tie as tie
 
 abbrev Inv-loop : tie.InvT-loop
-Inv-loop image table₀ t₀ table t = (t ≤ 168) × (length table ≡ 168) × Filled (trackEntry image) table t
+Inv-loop image table₀ t₀ table t = (t ≤ trackSlots) × (length table ≡ trackSlots) × Filled (trackEntry image) table t
 
 abbrev μ-loop : tie.MeasureT-loop
-μ-loop image table₀ t₀ table t = 168 - t
+μ-loop image table₀ t₀ table t = trackSlots - t
 
 loop-holds : tie.Need-loop-holds Inv-loop μ-loop
 loop-holds c = (search needs, refl, fill-none)
 
-mul-le32 : tie.Need-mul-le32 Inv-loop μ-loop
-mul-le32 c = search needs
+cast-track-entry : tie.Need-cast-track-entry Inv-loop μ-loop
+cast-track-entry c = search needs
 
-add-le32 : tie.Need-add-le32 Inv-loop μ-loop
-add-le32 c = search needs
-
-le32-requires : tie.Need-le32-requires Inv-loop μ-loop
-le32-requires c κs = search needs
+track-entry-requires : tie.Need-track-entry-requires Inv-loop μ-loop
+track-entry-requires c κs = search needs
 
 mul-table : tie.Need-mul-table Inv-loop μ-loop
 mul-table c = search needs
@@ -41,7 +38,7 @@ loop-less c = search needs
 loop-again : tie.Need-loop-again Inv-loop μ-loop
 loop-again c =
     let l = c .before .before .loop in
-    (search needs, search needs, fill-next (l .inv .2) (search needs) (c .le32 .ensures))
+    (search needs, search needs, fill-next (l .inv .2) (search needs) (c .track-entry .ensures))
 
 returns : tie.Need-returns Inv-loop μ-loop
 returns c =
@@ -55,9 +52,8 @@ read-table-spec =
     Inv-loop
     μ-loop
     loop-holds
-    mul-le32
-    add-le32
-    le32-requires
+    cast-track-entry
+    track-entry-requires
     mul-table
     array-write-table
     add-t

@@ -6,7 +6,7 @@ use lib.ListN.{getD}
 use borrow.Author.Needs.{needs}
 use Rattle.refusals.specs.Search.{firstFrom}
 use Rattle.scp_fields.specs.Header.{trackSlots, trackEntry}
-use Rattle.scp_open.specs.Tracks.{trackFaultAt, trackFault, tracksFault}
+use Rattle.scp_tracks.specs.Tracks.{trackFaultAt, trackFault, tracksFault}
 use Rattle.refusals.proofs.Loops.{found-here, found-next, found-none}
 use Rattle.scp_open.proofs.Table.{list-at}
 use Rattle.scp_open.proofs.tracks_fault.Statement.{statement}
@@ -27,6 +27,9 @@ mul-track-fault c = search needs
 element-copy-out-track-fault : tie.Need-element-copy-out-track-fault Inv-loop μ-loop
 element-copy-out-track-fault c = search needs
 
+cast-track-fault : tie.Need-cast-track-fault Inv-loop μ-loop
+cast-track-fault c = search needs
+
 track-fault-requires : tie.Need-track-fault-requires Inv-loop μ-loop
 track-fault-requires c κs = search needs
 
@@ -37,7 +40,7 @@ found c =
     let at-loop = c .before .before .before in
     let start = at-loop .before .before in
     let image = start .args .image .now in
-    let entry = ap (λ (es : List ℕ). getD es (at-loop .loop .t) 0) (start .pre .1) ∙ list-at (trackEntry image) trackSlots (at-loop .loop .t) (search needs) in
+    let entry = ap (λ (es : List ℕ). getD es (at-loop .loop .t) 0) (start .pre) ∙ list-at (trackEntry image) trackSlots (at-loop .loop .t) (search needs) in
     c .track-fault .ensures ∙ ap (λ (e : ℕ). trackFaultAt image e (at-loop .loop .t)) entry
 
 returns : tie.Need-returns Inv-loop μ-loop
@@ -67,6 +70,7 @@ tracks-fault-spec =
     loop-holds
     mul-track-fault
     element-copy-out-track-fault
+    cast-track-fault
     track-fault-requires
     returns
     add-t

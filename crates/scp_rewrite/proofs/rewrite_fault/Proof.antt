@@ -6,7 +6,7 @@ use lib.ListN.{length}
 use borrow.Author.Needs.{needs}
 use Rattle.refusals.specs.declared.Refusal.{Refusal}
 use Rattle.scp_fields.specs.Header.{trackEntry}
-use Rattle.scp_open.specs.declared.RevolutionData.{RevolutionData}
+use Rattle.scp_tracks.specs.declared.RevolutionData.{RevolutionData}
 use Rattle.scp_rewrite.specs.Rewriting.{wordsThenShared}
 use Rattle.scp_rewrite.specs.Steps.{Inside}
 use Rattle.scp_open.proofs.Opens.{opens}

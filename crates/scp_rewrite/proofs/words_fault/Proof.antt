@@ -2,7 +2,7 @@
 use Prim.Native.Nat.{ℕ}
 use mathlib.Core.Path.{_≡_, sym, ap, _∙_}
 use borrow.Author.Needs.{needs}
-use Rattle.scp_open.specs.Tracks.{countAt}
+use Rattle.scp_tracks.specs.Tracks.{countAt}
 use Rattle.scp_rewrite.specs.Claims.{standAt, shared}
 use Rattle.scp_rewrite.specs.Rewriting.{badWords, wordsThenShared}
 use Rattle.scp_rewrite.specs.declared.Stand.{Stand}

@@ -4,7 +4,7 @@ use Rattle.scp.specs.Answers.{bytes, ofRevolution, revolutionAnswer}
 use Rattle.sequence.specs.Book.{answer}
 use Rattle.sequence.specs.Rows.{rowOf}
 use Rattle.refusals.specs.Refusals.{passes}
-use Rattle.scp.specs.Questions.{revolutionQuestion}
+use Rattle.scp_lookup.specs.Questions.{revolutionQuestion}
 use Rattle.sequence.proofs.RowLaws.{flux-found, flux-refused}
 use borrow.Author.Needs.{needs}
 use Rattle.sequence.proofs.flux_row.Statement.{statement}

@@ -1,0 +1,183 @@
+-- What finding a track or a revolution says: where it is found its numbers are the definition's, and its flux lies in the image.
+use Prim.Native.Nat.{ℕ, _+_, _*_, _<_, _≤_}
+use mathlib.Core.Path.{_≡_, refl, sym, ap, _∙_}
+use mathlib.Core.List.{List}
+use mathlib.Core.Bool.{Bool, true, false, cond}
+use native.Mathlib.Omega.{arith}
+use lib.ListN.{length}
+use lib.Dec.{leb, ltb}
+use borrow.Author.Tests.{eq-eqb, ne-eqb, eqb-true, eqb-false, le-leb, lt-leb, leb-false, ltb-true, ltb-false}
+use Rattle.refusals.specs.declared.Refusal.{Refusal}
+use Rattle.refusals.specs.Refusals.{none, refusal, passes, refuseIf, firstOf}
+use Rattle.scp_fields.specs.Header.{revolutions, trackEntry}
+use Rattle.refusals.proofs.Finding.{not-refused}
+use Rattle.scp_tracks.specs.Revolutions.{dataOf, revolutionOf}
+use Rattle.scp_tracks.specs.declared.Revolution.the-variants.{Absent, Present}
+use Rattle.scp_tracks.specs.declared.RevolutionData.{RevolutionData}
+use Rattle.scp_open.proofs.Opens.{opens}
+use Rattle.scp_lookup.specs.Questions.{trackThen, trackQuestion, revolutionQuestion}
+use Rattle.scp_lookup.specs.Lookups.{foundTrack, foundRevolution}
+use Rattle.scp_lookup.specs.declared.Entry.the-variants as entry
+use Rattle.scp_lookup.specs.declared.RevolutionAnswer.the-variants as revolution-answer
+use Rattle.scp_lookup.proofs.Asking.{TrackThere, then-rest, there, track-passes}
+
+-- ---- a track
+
+module _ (b : List ℕ) (t : ℕ) where
+  pub track-refused : {f : Refusal} → f ≡ trackQuestion b t → (f .number ≡ 0 → ⊥) → entry.Refused f ≡ foundTrack b t
+  unfolding foundTrack
+  track-refused {f} e n =
+      ap entry.Refused e ∙ sym (simp (ne-eqb (trackQuestion b t .number) 0 (λ z. n (ap (λ (x : Refusal). x .number) e ∙ z))))
+
+  pub track-found : TrackThere b t → entry.At (trackEntry b t) ≡ foundTrack b t
+  unfolding foundTrack
+  track-found h = sym (simp (eq-eqb (trackQuestion b t .number) 0 (track-passes b t h)))
+
+  -- a track that is found is there, and its entry is the table's
+  pub record FoundAt (e : ℕ) : Type 0 where
+    pub present : TrackThere b t
+    pub same : e ≡ trackEntry b t
+
+  pub found-at : {e : ℕ} → entry.At e ≡ foundTrack b t → FoundAt e
+  unfolding foundTrack
+  found-at {e} h = go (passes (trackQuestion b t)) refl h
+    where
+      go : (x : Bool) → passes (trackQuestion b t) ≡ x
+          → entry.At e ≡ cond x (entry.At (trackEntry b t)) (entry.Refused (trackQuestion b t)) → FoundAt e
+      go true q h = record { present = there b t none (eqb-true (trackQuestion b t .number) 0 q); same = cc }
+      go false q h = let z : _≡_ {A = ℕ} 0 1 = cc in absurd (omega arith)
+
+  -- one that is refused is refused by the question
+  pub record NotFound (f : Refusal) : Type 0 where
+    pub refuses : f ≡ trackQuestion b t
+    pub number : f .number ≡ 0 → ⊥
+
+  pub not-found : {f : Refusal} → entry.Refused f ≡ foundTrack b t → NotFound f
+  unfolding foundTrack
+  not-found {f} h = go (passes (trackQuestion b t)) refl h
+    where
+      go : (x : Bool) → passes (trackQuestion b t) ≡ x
+          → entry.Refused f ≡ cond x (entry.At (trackEntry b t)) (entry.Refused (trackQuestion b t)) → NotFound f
+      go true q h = let z : _≡_ {A = ℕ} 0 1 = cc in absurd (omega arith)
+      go false q h =
+          let e : f ≡ trackQuestion b t = cc in
+          record { refuses = e; number = λ z. eqb-false (trackQuestion b t .number) 0 q (ap (λ (x : Refusal). x .number) (sym e) ∙ z) }
+
+-- what refuses before the end of a chain refuses whatever its end is
+alike : (x y z : Bool) (f g rest : Refusal) → (refuseIf x f (refuseIf y g (refuseIf z g none)) .number ≡ 0 → ⊥)
+    → refuseIf x f (refuseIf y g (refuseIf z g none)) ≡ refuseIf x f (refuseIf y g (refuseIf z g rest))
+unfolding refuseIf
+alike true y z f g rest n = refl
+alike false true z f g rest n = refl
+alike false false true f g rest n = refl
+alike false false false f g rest n = absurd (n refl)
+
+refused-alike : (b : List ℕ) (t : ℕ) (rest : Refusal) → (trackQuestion b t .number ≡ 0 → ⊥) → trackQuestion b t ≡ trackThen b t rest
+unfolding trackThen firstOf
+refused-alike b t rest n = alike _ _ _ _ _ rest n
+
+-- ---- a revolution
+
+-- a revolution read from its track header
+module _ (b : List ℕ) (e k : ℕ) where
+  pub absent-is : Absent ≡ revolutionOf b e k → revolutions b ≤ k
+  unfolding revolutionOf
+  absent-is h = go (ltb k (revolutions b)) refl h
+    where
+      go : (x : Bool) → ltb k (revolutions b) ≡ x → Absent ≡ cond x (Present (dataOf b e k)) Absent → revolutions b ≤ k
+      go true q h = let z : _≡_ {A = ℕ} 0 1 = cc in absurd (omega arith)
+      go false q h = ltb-false k (revolutions b) q
+
+  pub record PresentData (d : RevolutionData) : Type 0 where
+    pub below : k < revolutions b
+    pub same : d ≡ dataOf b e k
+
+  pub present-is : {d : RevolutionData} → Present d ≡ revolutionOf b e k → PresentData d
+  unfolding revolutionOf
+  present-is {d} h = go (ltb k (revolutions b)) refl h
+    where
+      go : (x : Bool) → ltb k (revolutions b) ≡ x → Present d ≡ cond x (Present (dataOf b e k)) Absent → PresentData d
+      go true q h = record { below = ltb-true k (revolutions b) q; same = cc }
+      go false q h = let z : _≡_ {A = ℕ} 0 1 = cc in absurd (omega arith)
+
+module _ (b : List ℕ) (t k : ℕ) where
+  pub revolution-refused : {f : Refusal} → f ≡ revolutionQuestion b t k → (f .number ≡ 0 → ⊥) → revolution-answer.Refused f ≡ foundRevolution b t k
+  unfolding foundRevolution
+  revolution-refused {f} e n =
+      ap revolution-answer.Refused e
+      ∙ sym (simp (ne-eqb (revolutionQuestion b t k .number) 0 (λ z. n (ap (λ (x : Refusal). x .number) e ∙ z))))
+
+  -- where the track is not found
+  pub no-track : {f : Refusal} → NotFound b t f → revolution-answer.Refused f ≡ foundRevolution b t k
+  no-track {f} h =
+      let n : trackQuestion b t .number ≡ 0 → ⊥ = λ z. h .number (ap (λ (x : Refusal). x .number) (h .refuses) ∙ z) in
+      revolution-refused (h .refuses ∙ refused-alike b t _ n) (h .number)
+
+  -- where the revolution is absent
+  pub absent-refused : {f : Refusal} → TrackThere b t → revolutions b ≤ k → f ≡ refusal 14 0 → revolution-answer.Refused f ≡ foundRevolution b t k
+  unfolding refuseIf
+  absent-refused {f} h l e =
+      revolution-refused (e ∙ sym (simp (le-leb (revolutions b) k l)) ∙ then-rest b t _ h)
+      (λ z. let q : 14 ≡ 0 = ap (λ (x : Refusal). x .number) (sym e) ∙ z in omega arith)
+
+  -- the revolution is there
+  pub record RevolutionThere : Type 0 where
+    pub track : TrackThere b t
+    pub below : k < revolutions b
+
+  pub revolution-passes : RevolutionThere → revolutionQuestion b t k .number ≡ 0
+  unfolding refuseIf
+  revolution-passes h =
+      ap (λ (x : Refusal). x .number) (sym (then-rest b t _ (h .track))) ∙ simp (lt-leb (revolutions b) k (h .below))
+
+  pub revolution-there : revolutionQuestion b t k .number ≡ 0 → RevolutionThere
+  revolution-there z =
+      let h = there b t _ z in
+      let rest = ap (λ (x : Refusal). x .number) (then-rest b t _ h) ∙ z in
+      record { track = h; below = leb-false (revolutions b) k (not-refused (leb (revolutions b) k) 13 0 none rest .0) }
+
+  pub revolution-found : {d : RevolutionData} → RevolutionThere → d ≡ dataOf b (trackEntry b t) k → revolution-answer.Found d ≡ foundRevolution b t k
+  unfolding foundRevolution
+  revolution-found h e = ap revolution-answer.Found e ∙ sym (simp (eq-eqb (revolutionQuestion b t k .number) 0 (revolution-passes h)))
+
+  -- one that is found is there, and has its numbers
+  pub record FoundData (d : RevolutionData) : Type 0 where
+    pub present : RevolutionThere
+    pub same : d ≡ dataOf b (trackEntry b t) k
+
+  pub found-data : {d : RevolutionData} → revolution-answer.Found d ≡ foundRevolution b t k → FoundData d
+  unfolding foundRevolution
+  found-data {d} h = go (passes (revolutionQuestion b t k)) refl h
+    where
+      go : (x : Bool) → passes (revolutionQuestion b t k) ≡ x
+          → revolution-answer.Found d
+          ≡ cond x (revolution-answer.Found (dataOf b (trackEntry b t) k)) (revolution-answer.Refused (revolutionQuestion b t k)) → FoundData d
+      go true q h = record { present = revolution-there (eqb-true (revolutionQuestion b t k .number) 0 q); same = cc }
+      go false q h = let z : _≡_ {A = ℕ} 0 1 = cc in absurd (omega arith)
+
+  -- one that is refused is refused by the question
+  pub record RevolutionRefused (f : Refusal) : Type 0 where
+    pub refuses : f ≡ revolutionQuestion b t k
+    pub number : f .number ≡ 0 → ⊥
+
+  pub found-refused : {f : Refusal} → revolution-answer.Refused f ≡ foundRevolution b t k → RevolutionRefused f
+  unfolding foundRevolution
+  found-refused {f} h = go (passes (revolutionQuestion b t k)) refl h
+    where
+      go : (x : Bool) → passes (revolutionQuestion b t k) ≡ x
+          → revolution-answer.Refused f
+          ≡ cond x (revolution-answer.Found (dataOf b (trackEntry b t) k)) (revolution-answer.Refused (revolutionQuestion b t k)) → RevolutionRefused f
+      go true q h = let z : _≡_ {A = ℕ} 0 1 = cc in absurd (omega arith)
+      go false q h =
+          let e : f ≡ revolutionQuestion b t k = cc in
+          record { refuses = e; number = λ z. eqb-false (revolutionQuestion b t k .number) 0 q (ap (λ (x : Refusal). x .number) (sym e) ∙ z) }
+
+  -- its flux lies in the image
+  pub flux-within : {d : RevolutionData} → FoundData d → d .place .0 + 2 * d .words ≤ length b
+  flux-within {d} h =
+      let present = h .present .track in
+      let track = opens b (present .opened) .tracks t (present .slot) (present .entry) in
+      let place = ap (λ (x : RevolutionData). x .place .0) (h .same) in
+      let words = ap (λ (x : RevolutionData). x .words) (h .same) in
+      let within = track .flux k (h .present .below) in
+      omega arith

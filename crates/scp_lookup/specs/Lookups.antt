@@ -1,0 +1,23 @@
+-- A track or a revolution as it is looked up: what is found, or what refuses it (01, Numbers of refusal).
+use Prim.Native.Nat.{ℕ}
+use mathlib.Core.List.{List}
+use mathlib.Core.Bool.{cond}
+use Rattle.refusals.specs.Refusals.{passes}
+use Rattle.scp_fields.specs.Header.{trackEntry}
+use Rattle.scp_tracks.specs.Revolutions.{dataOf}
+use Rattle.scp_lookup.specs.Questions.{trackQuestion, revolutionQuestion}
+use Rattle.scp_lookup.specs.declared.Entry.{Entry}
+use Rattle.scp_lookup.specs.declared.Entry.the-variants as entry
+use Rattle.scp_lookup.specs.declared.RevolutionAnswer.{RevolutionAnswer}
+use Rattle.scp_lookup.specs.declared.RevolutionAnswer.the-variants as revolution-answer
+
+-- The entry of track t, or what refuses it: 1 to 11, then 13.
+unfoldable pub foundTrack : List ℕ → ℕ → Entry
+foundTrack b t = cond (passes (trackQuestion b t)) (entry.At (trackEntry b t)) (entry.Refused (trackQuestion b t))
+
+-- The numbers of revolution k of track t, or what refuses it: 1 to 11, then 13, then 14.
+unfoldable pub foundRevolution : List ℕ → ℕ → ℕ → RevolutionAnswer
+foundRevolution b t k =
+    cond (passes (revolutionQuestion b t k))
+    (revolution-answer.Found (dataOf b (trackEntry b t) k))
+    (revolution-answer.Refused (revolutionQuestion b t k))

@@ -1,0 +1,42 @@
+-- Drive speed: "2,400,000,000 divided by the duration, one f64 division rounded once, both numbers first made floats without loss"
+-- (01, Flux and time).
+use Prim.Native.Nat.{ℕ}
+use mathlib.Core.Path.{_≡_}
+use mathlib.Core.Bool.{cond}
+use mathlib.Core.List.{List}
+use lib.Dec.{eqb}
+use lib.IntN.{pos}
+use lib.Ieee.{Float, binary64, div, ofInt}
+use Rattle.scp_fields.specs.Header.{revolutions}
+use Rattle.scp_tracks.specs.Tracks.{durationAt}
+use Rattle.scp_speed.specs.Durations.{longestFrom, shortestFrom}
+use Rattle.scp_speed.specs.declared.SpeedRange.{SpeedRange}
+use Rattle.scp_speed.specs.declared.SpeedRange.the-variants as range
+use Rattle.scp_speed.specs.declared.Speed.{Speed}
+use Rattle.scp_speed.specs.declared.Speed.the-variants.{Rpm, None}
+
+-- The speed in rpm of a duration in ticks.
+abbrev pub rpmOf : ℕ → Float
+rpmOf d = div binary64 (ofInt binary64 (pos 2_400_000_000)) (ofInt binary64 (pos d))
+
+-- "The answer is a speed in rpm or the plain fact that there is none, which is so for duration 0."
+unfoldable pub speedOf : ℕ → Speed
+speedOf d = cond (eqb d 0) None (Rpm (rpmOf d))
+
+-- The longest and the shortest nonzero duration of the revolutions of the track data header at e; 0 where all are 0.
+abbrev pub longest : List ℕ → ℕ → ℕ
+longest b e = longestFrom (durationAt b e) 0 (revolutions b)
+
+abbrev pub shortest : List ℕ → ℕ → ℕ
+shortest b e = shortestFrom (durationAt b e) 0 (revolutions b)
+
+-- Of the track data header at e: "a pair of slowest and fastest speed, from its longest and its shortest nonzero duration, or none if all
+-- are 0".
+unfoldable pub speedsOf : List ℕ → ℕ → SpeedRange
+speedsOf b e =
+    cond (eqb (longest b e) 0) range.None
+    (range.Speeds (record { slowest = rpmOf (longest b e); fastest = rpmOf (shortest b e) }))
+
+-- "exactly 300.0 at 8,000,000".
+abbrev pub ThreeHundred : Type 0
+ThreeHundred = speedOf 8_000_000 ≡ Rpm (ofInt binary64 (pos 300))

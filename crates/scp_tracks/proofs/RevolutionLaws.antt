@@ -1,0 +1,52 @@
+-- A revolution is present where its number is below the image's, and its place is the exact sum.
+use Prim.Native.Nat.{ℕ, _+_, _<_, _≤_}
+use mathlib.Core.Path.{_≡_, refl, sym, ap}
+use mathlib.Core.List.{List}
+use mathlib.Core.Bool.{true, or-true}
+use native.Mathlib.Omega.{arith}
+use borrow.Author.Tests.{lt-ltb, le-ltb, le-leb}
+use Rattle.scp_fields.specs.Header.{tableEnd, revolutions, dataEnd}
+use Rattle.scp_tracks.specs.Tracks.{offsetOf, headerSize, badMark, badTrack}
+use Rattle.scp_tracks.specs.Revolutions.{dataOf, revolutionOf}
+use Rattle.scp_tracks.specs.declared.FileOffset.{FileOffset}
+use Rattle.scp_tracks.specs.declared.RevolutionData.{RevolutionData}
+use Rattle.scp_tracks.specs.declared.Revolution.the-variants.{Absent, Present}
+
+-- a revolution's numbers, one by one
+pub data-is : {d d′ w w′ : ℕ} {p : FileOffset} {n : ℕ} → d ≡ d′ → w ≡ w′ → p .0 ≡ n
+    → _≡_ {A = RevolutionData} (record { duration = d; words = w; place = p }) (record { duration = d′; words = w′; place = record { 0 = n } })
+data-is {d} {d′} {w} {w′} {p} {n} e f g =
+    let q : p ≡ record { 0 = n } = ap (λ (x : ℕ). record { 0 = x }) g in
+    cc
+
+module _ (b : List ℕ) (e k : ℕ) where
+  pub absent : revolutions b ≤ k → Absent ≡ revolutionOf b e k
+  unfolding revolutionOf
+  absent h = sym (simp (le-ltb k (revolutions b) h))
+
+  pub present : k < revolutions b → Present (dataOf b e k) ≡ revolutionOf b e k
+  unfolding revolutionOf
+  present h = sym (simp (lt-ltb k (revolutions b) h))
+
+-- ---- a track data header at e, of track t
+
+module _ (b : List ℕ) (e t : ℕ) where
+  pub track-low : e < tableEnd → true ≡ badTrack b e t
+  unfolding badTrack
+  track-low h = sym (simp (lt-ltb _ _ h))
+
+  pub track-past : dataEnd b < e + headerSize b → true ≡ badTrack b e t
+  unfolding badTrack
+  track-past h = sym (simp (lt-ltb _ _ h, or-true))
+
+  pub track-in : tableEnd ≤ e → e + headerSize b ≤ dataEnd b → badMark b e t ≡ badTrack b e t
+  unfolding badTrack
+  track-in l h = sym (simp (le-ltb _ _ l, le-ltb _ _ h))
+
+-- ---- offsets
+
+-- two numbers of 32 bits
+pub exact-offset : (h d : ℕ) → h < 4_294_967_296 → d < 4_294_967_296 → offsetOf h d ≡ h + d
+exact-offset h d p q =
+    let fits : h + d ≤ 18_446_744_073_709_551_615 = omega arith in
+    simp (le-leb (h + d) 18_446_744_073_709_551_615 fits)

@@ -1,0 +1,18 @@
+-- A revolution as it is handed out: "A turn is either absent or present with its duration, word count and place" (01, Flux and time).
+use Prim.Native.Nat.{ℕ}
+use mathlib.Core.List.{List}
+use mathlib.Core.Bool.{cond}
+use lib.Dec.{ltb}
+use Rattle.scp_fields.specs.Header.{revolutions}
+use Rattle.scp_tracks.specs.Tracks.{durationAt, countAt, fluxAt}
+use Rattle.scp_tracks.specs.declared.RevolutionData.{RevolutionData}
+use Rattle.scp_tracks.specs.declared.Revolution.{Revolution}
+use Rattle.scp_tracks.specs.declared.Revolution.the-variants.{Absent, Present}
+
+-- The numbers of revolution k of the track header at e.
+abbrev pub dataOf : List ℕ → ℕ → ℕ → RevolutionData
+dataOf b e k = record { duration = durationAt b e k; words = countAt b e k; place = record { 0 = fluxAt b e k } }
+
+-- Present where k is below the number of revolutions.
+unfoldable pub revolutionOf : List ℕ → ℕ → ℕ → Revolution
+revolutionOf b e k = cond (ltb k (revolutions b)) (Present (dataOf b e k)) Absent
