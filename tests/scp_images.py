@@ -75,6 +75,17 @@ def resum(b):
 A = image({0: [(8_000_000, [160, 0, 1, 240])]})
 
 
+def any_order():
+    """A string comes first, then track 2, whose flux lies over that of track 0, then track 0; two of the strings are the same (L-19)."""
+    string, second, first, flux = HEAD, HEAD + 5, HEAD + 21, HEAD + 37
+    body = b'\2\0hi\0' + b'TRK\2' + struct.pack('<III', 4_000_000, 3, flux + 2 - second)
+    body += b'TRK\0' + struct.pack('<III', 8_000_000, 4, flux - first) + struct.pack('>4H', 160, 0, 1, 240)
+    b = image({}, end=2, tail=body, footer=([None] * 6, 0, 0, [0, 0, 0, 0x16]))
+    for at, offset in (0x10, first), (0x18, second), (len(b) - 48, string), (len(b) - 28, string):
+        b = put(b, at, struct.pack('<I', offset))
+    return resum(b)
+
+
 def images():
     five = lambda n: [(8_000_000 + 1000 * k * n, [100 + n, 0, 0, 7 + k] + [0] * (k % 3)) for k in range(5)]
     strings = [b'maker', b'', None, b'creator', b'app 1.6', None]
@@ -125,6 +136,12 @@ def images():
         'damaged': put(A, 12, struct.pack('<I', 981)),
         'read_write_summed': put(image({0: [(8_000_000, [5, 0])]}, flags=0x11), 12, b'\1'),
         'type_bit_is_not_read_write': image({0: [(8_000_000, [5])]}, flags=9),
+        # what is ignored: version, disk type, FLAGS but bits 4 and 5, the reserved byte (L-2, L-5, L-9); a timestamp (L-20)
+        'ignored_bytes': put(image({0: [(8_000_000, [5])]}, flags=0xCF, version=0xFF, disk=0xFF), 11, b'\xFF'),
+        'timestamp': image({0: [(8_000_000, [5])]}, tail=b'1/05/2014 5:15:21 PM'),
+        'any_order': any_order(),
+        # every byte but zero, and 0x97 as the text's example has it (L-24)
+        'string_any_bytes': image({0: [(0, [])]}, footer=([bytes(range(1, 256)), b'My \x97pp'] + [None] * 4, 0, 0, [0, 0, 0, 0x16])),
     }
     return plain
 
