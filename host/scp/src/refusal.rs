@@ -1,6 +1,6 @@
 //! Refusals: a reason with its number, and a position.
 
-use crate::STRING_NAMES;
+use crate::answers::STRING_NAMES;
 use std::fmt;
 
 /// Why a call is refused. The number of a reason is its discriminant, 1 to 18.

@@ -1,6 +1,8 @@
 //! Sequences of calls on one image, run by the archive in one go.
 
-use crate::{raw, Footer, Header, Refusal, Revolution, Track, TrackSpeeds};
+use crate::answers::{Footer, Header, Revolution, Track, TrackSpeeds};
+use crate::raw;
+use crate::refusal::Refusal;
 
 /// A call of a sequence, with its arguments.
 #[derive(Clone, Debug, PartialEq, Eq)]
