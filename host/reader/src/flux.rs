@@ -1,7 +1,7 @@
 //! Intervals from flux words, and flux words from times.
 
-use crate::image::{refuse, refuse_at, stretch, GREATEST};
-use crate::{Refusal, Step};
+use crate::answers::{refuse, refuse_at, Refusal, Step};
+use crate::image::{stretch, GREATEST};
 
 /// The rules, Flux and time: the ticks of a zero word.
 const ZERO_WORD: u64 = 65_536;

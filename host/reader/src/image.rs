@@ -2,7 +2,7 @@
 
 use std::collections::BTreeMap;
 
-use crate::{Footer, Header, Refusal, Revolution};
+use crate::answers::{refuse, refuse_at, Footer, Header, Refusal, Revolution};
 
 /// The rules, refusal 1: the greatest length; refusal 17 has the same bound.
 pub(crate) const GREATEST: u64 = 268_435_456;
@@ -67,16 +67,6 @@ impl TrackData {
         let index = usize::try_from(revolution).map_err(|_| refuse(14))?;
         self.revolutions.get(index).copied().ok_or(refuse(14))
     }
-}
-
-/// The rules, Numbers of refusal: a refusal at position 0.
-pub(crate) fn refuse(number: u32) -> Refusal {
-    refuse_at(number, 0)
-}
-
-/// The rules, Numbers of refusal: a refusal at a string number, track index or index of a time.
-pub(crate) fn refuse_at(number: u32, position: u64) -> Refusal {
-    Refusal { number, position }
 }
 
 /// The bytes of a stretch given by start and length, if all of them are there.

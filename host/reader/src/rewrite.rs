@@ -1,8 +1,8 @@
 //! Rewriting of one revolution.
 
+use crate::answers::{refuse, Refusal, Revolution};
 use crate::flux;
-use crate::image::{refuse, true_sum, Image, FIRST, FOOTER};
-use crate::{Refusal, Revolution};
+use crate::image::{true_sum, Image, FIRST, FOOTER};
 
 /// A set of bytes of the image: a mark for each of them.
 struct Bytes {
