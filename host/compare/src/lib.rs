@@ -6,6 +6,7 @@
 #![forbid(unsafe_code)]
 
 pub mod cases;
+pub mod difference;
 pub mod generate;
 pub mod guarded;
 pub mod image;
