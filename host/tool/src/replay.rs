@@ -6,8 +6,9 @@ use scp::{Answer, Call};
 
 use crate::arguments::{Arguments, Command};
 use crate::checksum::{say_change, Checksum};
+use crate::destination::{Destination, Kind};
 use crate::failure::Failure;
-use crate::files::{shown, Destination, Input, Kind};
+use crate::files::{shown, Input};
 use crate::numbers::number;
 
 /// The command.
