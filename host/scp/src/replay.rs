@@ -152,6 +152,6 @@ pub fn replay(image: &mut [u8], calls: &[Call]) -> Vec<Result<Answer, Refusal>> 
     let rows: Vec<u64> = calls.iter().flat_map(|call| call.row(&mut words)).collect();
     let mut answers = vec![0; ANSWER * calls.len()];
     let code = raw::replay(image, &rows, &words, &mut answers);
-    debug_assert_eq!(code, 0, "there are 16 places a call");
+    assert_eq!(code, 0, "there are 16 places a call");
     calls.iter().zip(answers.chunks_exact(ANSWER)).map(|(call, row)| call.answer(row)).collect()
 }
