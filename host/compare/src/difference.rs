@@ -1,8 +1,15 @@
-//! Where library and reader differ: in the code that a call returns, or in a buffer that it was lent.
+//! Where library and reader agree, and where they differ: in the code that a call returns, or in a buffer that it was lent.
 
 use crate::guarded::{Guarded, Same};
 use scp_reader as reader;
 use std::fmt::Debug;
+
+/// What the two agree on: the number of the call's refusal, 0 for none, and of a sequence that of each row.
+#[derive(Clone, Debug, PartialEq, Eq)]
+pub struct Agreed {
+    pub number: u32,
+    pub rows: Vec<u32>,
+}
 
 /// Where the two differ.
 #[derive(Clone, Debug, PartialEq, Eq)]

@@ -6,6 +6,7 @@
 #![forbid(unsafe_code)]
 
 pub mod cases;
+pub mod count;
 pub mod difference;
 pub mod generate;
 pub mod guarded;

@@ -1,6 +1,6 @@
 //! One call, put to the library and to the reader: answers, every element of every lent buffer, and the guards around them.
 
-use crate::difference::{after, same, same_code, Difference};
+use crate::difference::{after, same, same_code, Agreed, Difference};
 use crate::guarded::{Guarded, Same};
 use crate::sequence;
 use scp::raw;
@@ -30,15 +30,16 @@ const NUMBER: u64 = 0xD1D2_D3D4_D5D6_D7D8;
 const FLOAT: f64 = -12345.678;
 const BYTE: u8 = 0xE9;
 
-/// Puts the question about these bytes (an image, or flux) to both, and gives the reader's refusal number, or 0, where they agree.
-pub fn compare(bytes: &[u8], question: &Question) -> Result<u32, Difference> {
-    match question {
+/// Puts the question about these bytes (an image, or flux) to both.
+pub fn compare(bytes: &[u8], question: &Question) -> Result<Agreed, Difference> {
+    let number = match question {
+        Question::Sequence { calls, words, places } => return sequence::compare(bytes, calls, words, *places),
         Question::Rewrite { track, revolution, duration, words } => rewrite(bytes, *track, *revolution, *duration, words),
-        Question::Sequence { calls, words, places } => sequence::compare(bytes, calls, words, *places),
         Question::Intervals { times, places } => intervals(bytes, *times, *places),
         Question::Words { times, room, places } => words(times, *room, *places),
         _ => ask(bytes, question),
-    }
+    }?;
+    Ok(Agreed { number, rows: Vec::new() })
 }
 
 /// The questions that only read the bytes and fill one buffer.
