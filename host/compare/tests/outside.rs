@@ -3,6 +3,7 @@
 use scp::{Reason, Step};
 use scp_compare::cases::every_question;
 use scp_compare::difference::Difference;
+use scp_compare::image::number_at;
 use scp_compare::outside::{image, CAPTURE, OLD_CAPTURE, READ_WRITE, SINGLE_SIDED};
 use scp_compare::question::{compare, Question};
 
@@ -50,7 +51,7 @@ fn the_worked_examples_of_the_text_hold() {
     // "BYTES 0x34-0x3F would be the 5th entry (duration5, length5, offset5)."
     let place = scp::track(&capture, 0x50).unwrap().place as usize;
     let fifth = scp::revolution(&capture, 0x50, 4).unwrap();
-    let number = |at: usize| u32::from_le_bytes([capture[at], capture[at + 1], capture[at + 2], capture[at + 3]]);
+    let number = |at: usize| number_at(&capture, at);
     assert_eq!((number(place + 0x34), number(place + 0x38)), (fifth.duration, fifth.words));
     assert_eq!(place as u64 + u64::from(number(place + 0x3C)), fifth.place);
     // "0x00DA = 218", "0x0000, 0x0000, 0x7FFF = 65536 + 65536 + 32767 = 163839"
