@@ -71,7 +71,7 @@ fn one_by_one(image: &mut [u8], call: &[u64], words: &[u8]) -> [u64; ANSWER] {
     row
 }
 
-/// The flux of a revolution as how many bytes and their sum.
+/// The flux of a revolution as its file offset, how many bytes and their sum.
 fn flux(image: &[u8], track: u32, revolution: u32, values: &mut [u64]) -> u64 {
     let mut found = [0; 3];
     let code = raw::revolution(image, track, revolution, &mut found);
@@ -80,8 +80,8 @@ fn flux(image: &[u8], track: u32, revolution: u32, values: &mut [u64]) -> u64 {
     }
     let mut bytes = vec![0; 2 * found[1] as usize];
     let code = raw::flux(image, track, revolution, &mut bytes);
-    values[0] = bytes.len() as u64;
-    values[1] = bytes.iter().fold(0u32, |sum, &byte| sum.wrapping_add(byte.into())).into();
+    let sum = bytes.iter().fold(0u32, |sum, &byte| sum.wrapping_add(byte.into()));
+    values[..3].copy_from_slice(&[found[2], bytes.len() as u64, sum.into()]);
     code
 }
 

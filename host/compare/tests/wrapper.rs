@@ -49,8 +49,9 @@ fn expected(image: &mut [u8], call: &Call) -> Result<Answer, reader::Refusal> {
         Call::Track { track: t } => Answer::Track(track(reader::track(image, t)?)),
         Call::Revolution { track, revolution: k } => Answer::Revolution(revolution(reader::revolution(image, track, k)?)),
         Call::Flux { track, revolution } => {
+            let place = reader::revolution(image, track, revolution)?.place;
             let flux = reader::flux(image, track, revolution)?;
-            Answer::Flux { size: flux.len() as u64, sum: flux.iter().map(|&byte| u32::from(byte)).sum() }
+            Answer::Flux { place, size: flux.len() as u64, sum: flux.iter().map(|&byte| u32::from(byte)).sum() }
         }
         Call::Speed { track, revolution } => Answer::Speed(reader::speed(image, track, revolution)?),
         Call::TrackSpeed { track } => Answer::TrackSpeed(reader::track_speed(image, track)?.map(speeds)),

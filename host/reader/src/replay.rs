@@ -47,7 +47,7 @@ fn answer_to(image: &mut [u8], kind: u64, (track, revolution): (u32, u32), durat
         2 => questions::footer(image).map(footer_values),
         3 => questions::track(image, track).map(track_values),
         4 => questions::revolution(image, track, revolution).map(revolution_values),
-        5 => questions::flux(image, track, revolution).map(flux_values),
+        5 => flux_values(image, track, revolution),
         6 => questions::speed(image, track, revolution).map(speed_values),
         7 => questions::track_speed(image, track).map(track_speed_values),
         8 => rewrite(image, track, revolution, duration, words).map(|()| Vec::new()),
@@ -104,10 +104,12 @@ fn revolution_values(revolution: Revolution) -> Vec<u64> {
     vec![u64::from(revolution.duration), u64::from(revolution.words), revolution.place]
 }
 
-/// How many bytes, and their sum modulo 2^32.
-fn flux_values(flux: Vec<u8>) -> Vec<u64> {
+/// File offset of the flux, how many bytes it has, and their sum modulo 2^32.
+fn flux_values(image: &[u8], track: u32, revolution: u32) -> Result<Vec<u64>, Refusal> {
+    let found = questions::revolution(image, track, revolution)?;
+    let flux = questions::flux(image, track, revolution)?;
     let sum: u64 = flux.iter().map(|&byte| u64::from(byte)).sum();
-    vec![flux.len() as u64, sum % (1 << 32)]
+    Ok(vec![found.place, flux.len() as u64, sum % (1 << 32)])
 }
 
 /// 1 and the bit pattern of the speed; or nothing.
