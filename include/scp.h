@@ -102,8 +102,8 @@ uint64_t scp_rewrite(uint8_t *image, size_t size, uint32_t track, uint32_t revol
 
 /* Runs calls on the image in order. A call is 6 numbers: kind, track, revolution, duration, start and length of its part of words;
  * kinds: 0 validate, 1 header, 2 footer, 3 track, 4 revolution, 5 flux, 6 speed, 7 track speed, 8 rewrite, any other as 0. An answer
- * is 16 numbers: refusal's number, position, the values as above (flux: how many bytes and their sum; speeds: as bit patterns), zeros.
- * Refusal 15 where answers has fewer than 16 places a call. */
+ * is 16 numbers: refusal's number, position, the values as above (flux: its file offset, how many bytes, their sum modulo 2^32;
+ * speeds: as bit patterns), zeros. Refusal 15 where answers has fewer than 16 places a call. */
 uint64_t scp_replay(uint8_t *image, size_t size, const uint64_t *calls, size_t call_numbers, const uint8_t *words, size_t words_size,
                     uint64_t *answers, size_t places);
 

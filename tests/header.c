@@ -60,11 +60,12 @@ static void convert(const uint8_t *flux) {
 
 static void change(uint8_t *image) {
     uint64_t out[9];
-    uint64_t calls[12] = {8, 0, 0, 8000000, 0, 8, 0, 0, 0, 0, 0, 0};
-    uint64_t answers[32];
+    uint64_t calls[18] = {8, 0, 0, 8000000, 0, 8, 0, 0, 0, 0, 0, 0, 5, 0, 0, 0, 0, 0};
+    uint64_t answers[48];
     EXPECT(scp_rewrite(image, 712, 0, 0, 8000000, new_words, 7) == SCP_WORDS);
-    EXPECT(scp_replay(image, 712, calls, 12, new_words, 8, answers, 31) == SCP_PLACES);
-    EXPECT(scp_replay(image, 712, calls, 12, new_words, 8, answers, 32) == 0 && answers[0] == 0 && answers[16] == 0);
+    EXPECT(scp_replay(image, 712, calls, 18, new_words, 8, answers, 47) == SCP_PLACES);
+    EXPECT(scp_replay(image, 712, calls, 18, new_words, 8, answers, 48) == 0 && answers[0] == 0 && answers[16] == 0);
+    EXPECT(answers[32] == 0 && answers[34] == 704 && answers[35] == 8 && answers[36] == 306);
     EXPECT(scp_header(image, 712, out, 9) == 0 && out[8] == 885);
     EXPECT(scp_rewrite(image, 712, 0, 0, 8000000, track_data + 16, 8) == 0);
     EXPECT(scp_header(image, 712, out, 9) == 0 && out[8] == 980);

@@ -46,7 +46,7 @@ def answer(b, kind, t, k, duration, start, size):
         return list(turn(i, t, k)), b
     if kind == 5:
         _, count, place = turn(i, t, k)
-        return [2 * count, sum(b[place:place + 2 * count])], b
+        return [place, 2 * count, sum(b[place:place + 2 * count]) % 2**32], b
     if kind == 6:
         spent = turn(i, t, k)[0]
         return [1, bits(spent)] if spent else [0], b

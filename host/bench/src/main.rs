@@ -8,6 +8,7 @@
 mod plain;
 
 use scp::raw;
+use scp_compare::image::flux_bytes;
 use scp_compare::outside::{flux_words, image, Style, CAPTURE, READ_WRITE};
 use scp_compare::random::Random;
 use std::hint::black_box;
@@ -75,7 +76,7 @@ fn question(rounds: usize) {
 
 /// Flux of 50,000 words, by the cursor and at one go.
 fn reading(rounds: usize) {
-    let flux: Vec<u8> = flux_words(&mut Random::new(1), 50_000).iter().flat_map(|word| word.to_be_bytes()).collect();
+    let flux = flux_bytes(&flux_words(&mut Random::new(1), 50_000));
     let library = || {
         let (mut word, mut total, mut out) = (0, 0, [0; 3]);
         while raw::step(black_box(&flux), word, &mut out) == 0 && out[0] != 0 {
@@ -128,7 +129,7 @@ fn rewriting(rounds: usize) {
     {
         let mut mine = image(&style, 1000);
         let mut other = mine.clone();
-        let new: Vec<u8> = flux_words(&mut Random::new(3), 1000).iter().flat_map(|word| word.to_be_bytes()).collect();
+        let new = flux_bytes(&flux_words(&mut Random::new(3), 1000));
         let library = || raw::rewrite(black_box(&mut mine), 80, 0, 8_000_001, &new);
         let plain = || code(plain::rewrite(black_box(&mut other), 80, 0, 8_000_001, &new));
         ratio(&format!("rewrite 1000 words among 168 tracks ({name})"), rounds, 1000, library, plain);

@@ -1,6 +1,7 @@
 //! Cases by number: an input by chance, and the questions that are put to both.
 
 use crate::generate;
+use crate::image::{duration_at, entry_at, flux_bytes, number_at};
 use crate::question::Question;
 use crate::random::Random;
 use crate::sequence::{ANSWER, CALL};
@@ -71,14 +72,9 @@ fn places(random: &mut Random, needed: usize) -> usize {
     }
 }
 
-/// A little-endian number of the image, 0 where it is not there.
-fn number_at(image: &[u8], place: usize) -> u32 {
-    image.get(place..place + 4).map_or(0, |bytes| u32::from_le_bytes([bytes[0], bytes[1], bytes[2], bytes[3]]))
-}
-
 /// A track: mostly one with an entry in the table, else any.
 fn some_track(image: &[u8], random: &mut Random) -> u32 {
-    let present: Vec<u32> = (0..168).filter(|&track| number_at(image, 16 + 4 * track as usize) != 0).collect();
+    let present: Vec<u32> = (0..168).filter(|&track| number_at(image, entry_at(track as usize)) != 0).collect();
     match random.below(8) {
         0 => random.pick(&[0, 166, 167, 168, 169, 255, 256, u32::MAX]),
         1 => random.edgy32(),
@@ -102,8 +98,8 @@ fn count(image: &[u8], track: u32, revolution: u32) -> u32 {
     if track > 167 || revolution > 4 {
         return 0;
     }
-    let header = number_at(image, 16 + 4 * track as usize) as usize;
-    number_at(image, header.saturating_add(8 + 12 * revolution as usize))
+    let header = number_at(image, entry_at(track as usize)) as usize;
+    number_at(image, duration_at(header, revolution as usize) + 4)
 }
 
 /// A rewrite: as many words as there are or fewer, or a few too many, or a byte too many.
@@ -119,7 +115,8 @@ fn new_words(image: &[u8], track: u32, revolution: u32, random: &mut Random) -> 
         1 => most,
         _ => random.between(0, most),
     };
-    let mut bytes: Vec<u8> = (0..words).flat_map(|_| random.pick(&[0u16, 1, 0x0140, 0x1234, 0xABCD, 0xFFFF]).to_be_bytes()).collect();
+    let words: Vec<u16> = (0..words).map(|_| random.pick(&[0, 1, 0x0140, 0x1234, 0xABCD, 0xFFFF])).collect();
+    let mut bytes = flux_bytes(&words);
     if random.once_in(12) {
         bytes.push(0);
     }
@@ -169,7 +166,7 @@ fn flux_case(random: &mut Random) -> Case {
     let words = generate::words(random, most);
     let closing = words.iter().filter(|&&word| word != 0).count();
     let count = words.len() as u64;
-    let mut bytes: Vec<u8> = words.into_iter().flat_map(|word| word.to_be_bytes()).collect();
+    let mut bytes = flux_bytes(&words);
     if random.once_in(10) {
         bytes.push(random.byte());
     }

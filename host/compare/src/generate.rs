@@ -1,6 +1,9 @@
 //! Images by chance: valid ones of every shape, and faults put into them.
 
-use crate::image::{footer_bytes, set, store_checksum, FooterPart, Layout, Parts, Placed, RevolutionPart, TrackPart, TABLE_END};
+use crate::image::{
+    duration_at, entry_at, footer_bytes, number_at, set, store_checksum, FooterPart, Layout, Parts, Placed, RevolutionPart, TrackPart,
+    FOOTER_SIZE, TABLE_END,
+};
 use crate::random::Random;
 
 /// An image by chance: valid, or with a fault or several.
@@ -124,26 +127,31 @@ fn some_revolution(parts: &Parts, random: &mut Random) -> Option<(usize, usize)>
     Some((track, random.below(parts.tracks[track].revolutions.len())))
 }
 
+/// The end of the image, or the start of its footer.
+fn data_end(parts: &Parts, placed: &Placed) -> usize {
+    placed.image.len().saturating_sub(if parts.footer.is_some() { FOOTER_SIZE } else { 0 })
+}
+
 /// Puts the flux of a revolution elsewhere: onto that of another, onto a header or a string, to the end, or anywhere above its header.
 fn move_flux(parts: &Parts, placed: &mut Placed, random: &mut Random) {
     let Some((track, revolution)) = some_revolution(parts, random) else { return };
     let Some((other, other_revolution)) = some_revolution(parts, random) else { return };
     let header = placed.headers[track];
     let size = 2 * parts.tracks[track].revolutions[revolution].words.len();
-    let end = placed.image.len() - if parts.footer.is_some() { 48 } else { 0 };
+    let end = data_end(parts, placed);
     let string = random.pick(&placed.strings) as usize;
     let place = match random.below(7) {
         0 => placed.flux[other][other_revolution],
         1 => placed.headers[other] + random.below(20),
         2 => end - size.min(end),
         3 => (placed.flux[other][other_revolution] + 2).saturating_sub(2 * random.below(3)),
-        4 => header + 4 + 12 * revolution + random.below(13),
+        4 => duration_at(header, revolution) + random.below(13),
         5 => (string + random.below(14)).saturating_sub(size),
         _ => random.between(TABLE_END, placed.image.len()),
     };
     if header <= place {
         placed.flux[track][revolution] = place;
-        set(&mut placed.image, header + 12 + 12 * revolution, &((place - header) as u32).to_le_bytes());
+        set(&mut placed.image, duration_at(header, revolution) + 8, &((place - header) as u32).to_le_bytes());
     }
 }
 
@@ -152,24 +160,22 @@ fn share_string(parts: &Parts, placed: &mut Placed, random: &mut Random) {
     if parts.footer.is_none() {
         return;
     }
-    let footer = placed.image.len() - 48;
+    let footer = placed.image.len() - FOOTER_SIZE;
     let (from, to) = (footer + 4 * random.below(6), footer + 4 * random.below(6));
-    let mut offset = [0; 4];
-    offset.copy_from_slice(&placed.image[from..from + 4]);
+    let mut offset = number_at(&placed.image, from);
     if random.once_in(4) {
-        let at = random.between(TABLE_END, footer) as u32;
-        offset = at.to_le_bytes();
+        offset = random.between(TABLE_END, footer) as u32;
     }
-    set(&mut placed.image, to, &offset);
+    set(&mut placed.image, to, &offset.to_le_bytes());
 }
 
 /// Puts a track data header inside that of another track: a duration that reads "TRK" and the number.
 fn header_in_header(parts: &Parts, placed: &mut Placed, random: &mut Random) {
     let Some((track, revolution)) = some_revolution(parts, random) else { return };
     let Some((other, _)) = some_revolution(parts, random) else { return };
-    let place = placed.headers[track] + 4 + 12 * revolution;
+    let place = duration_at(placed.headers[track], revolution);
     set(&mut placed.image, place, &[b'T', b'R', b'K', parts.tracks[other].number]);
-    let entry = 16 + 4 * usize::from(parts.tracks[other].number);
+    let entry = entry_at(parts.tracks[other].number.into());
     set(&mut placed.image, entry, &(place as u32).to_le_bytes());
 }
 
@@ -198,7 +204,8 @@ fn spoil(parts: &Parts, placed: &mut Placed, random: &mut Random) {
 /// Another length: at an edge, a byte more or less, or any.
 fn resize(image: &mut Vec<u8>, random: &mut Random) {
     let now = image.len();
-    let edges = [0, 1, 16, 687, 688, 689, 735, 736, 737, now.saturating_sub(1), now.saturating_sub(48), now + 1, now + 48];
+    let edges =
+        [0, 1, 16, 687, 688, 689, 735, 736, 737, now.saturating_sub(1), now.saturating_sub(FOOTER_SIZE), now + 1, now + FOOTER_SIZE];
     let size = if random.once_in(3) { random.below(now + 2) } else { random.pick(&edges) };
     image.resize(size, 0);
 }
@@ -225,13 +232,13 @@ fn spoil_span(image: &mut [u8], random: &mut Random) {
 
 /// A footer without its sign or too old, or one that is flagged and not there.
 fn spoil_footer(image: &mut Vec<u8>, random: &mut Random) {
-    let Some(footer) = image.len().checked_sub(48) else { return };
+    let Some(footer) = image.len().checked_sub(FOOTER_SIZE) else { return };
     match random.below(5) {
         0 => spoil_byte(image, footer + 44, 4, random),
         1 => spoil_field(image, footer + 0x2B, &[0, 0x15, 0x16, 0x17], random),
         2 => set(image, 8, &[0x20]),
         3 => bare_footer(image, random),
-        _ => spoil_byte(image, footer, 48, random),
+        _ => spoil_byte(image, footer, FOOTER_SIZE, random),
     }
 }
 
@@ -242,15 +249,15 @@ fn bare_footer(image: &mut Vec<u8>, random: &mut Random) {
     image[16..].fill(0);
     image[8] |= 0x20;
     let footer = FooterPart { strings: Default::default(), created: 1, modified: -1, versions: [0, 0, 0, 0x16] };
-    let place = image.len() - 48;
+    let place = image.len() - FOOTER_SIZE;
     set(image, place, &footer_bytes(&footer, &[0; 6]));
 }
 
 /// A string misplaced or malformed.
 fn spoil_string(image: &mut [u8], random: &mut Random) {
-    let Some(footer) = image.len().checked_sub(48) else { return };
+    let Some(footer) = image.len().checked_sub(FOOTER_SIZE) else { return };
     let slot = footer + 4 * random.below(6);
-    let offset = u32::from_le_bytes([image[slot], image[slot + 1], image[slot + 2], image[slot + 3]]) as usize;
+    let offset = number_at(image, slot) as usize;
     match random.below(5) {
         0 => spoil_byte(image, offset, 2, random),
         1 => set(image, offset + 2 + random.below(9), &[0]),
@@ -266,26 +273,26 @@ fn spoil_string(image: &mut [u8], random: &mut Random) {
 
 /// An entry of the table: another value, another slot.
 fn spoil_entry(image: &mut [u8], random: &mut Random) {
-    let slot = 16 + 4 * random.below(168);
-    let other = 16 + 4 * random.below(168);
+    let slot = entry_at(random.below(168));
+    let other = entry_at(random.below(168));
     if image.len() < TABLE_END {
         return;
     }
     let near = random.below(8) as u32;
-    let mut value = [image[other], image[other + 1], image[other + 2], image[other + 3]];
+    let mut value = number_at(image, other);
     if random.once_in(2) {
         let end = image.len() as u32;
         let values = [near, 684 + near, end - near, end + near, u32::MAX - near, 1 << 31];
-        value = random.pick(&values).to_le_bytes();
+        value = random.pick(&values);
     }
-    set(image, slot, &value);
+    set(image, slot, &value.to_le_bytes());
 }
 
 /// A track's entry moved a little or far, its sign or its number changed.
 fn spoil_track(parts: &Parts, placed: &mut Placed, random: &mut Random) {
     let Some((track, _)) = some_revolution(parts, random) else { return };
     let header = placed.headers[track];
-    let slot = 16 + 4 * usize::from(parts.tracks[track].number);
+    let slot = entry_at(parts.tracks[track].number.into());
     let end = placed.image.len() as u32;
     let near = random.below(50) as u32;
     let values = [header as u32 + 1, header as u32 - 1, end.saturating_sub(near), end + near, u32::MAX - near, 687, 688];
@@ -306,8 +313,8 @@ fn spoil_track(parts: &Parts, placed: &mut Placed, random: &mut Random) {
 fn spoil_revolution(parts: &Parts, placed: &mut Placed, random: &mut Random) {
     let Some((track, revolution)) = some_revolution(parts, random) else { return };
     let (header, flux) = (placed.headers[track], placed.flux[track][revolution]);
-    let field = header + 4 + 12 * revolution;
-    let end = placed.image.len() - if parts.footer.is_some() { 48.min(placed.image.len()) } else { 0 };
+    let field = duration_at(header, revolution);
+    let end = data_end(parts, placed);
     let room = end.saturating_sub(flux) as u32 / 2;
     let away = end.saturating_sub(header) as u32;
     let counts = [0, room, room + 1, 1 << 31, (1 << 31) + 1, u32::MAX, random.edgy32()];

@@ -5,6 +5,29 @@ use crate::random::Random;
 /// The first byte after header and table.
 pub const TABLE_END: usize = 0x2B0;
 
+/// How long a footer is.
+pub const FOOTER_SIZE: usize = 48;
+
+/// Where the table has the entry of a track.
+pub fn entry_at(track: usize) -> usize {
+    16 + 4 * track
+}
+
+/// Where the track data header at a place has a revolution's duration; its count and its distance follow.
+pub fn duration_at(header: usize, revolution: usize) -> usize {
+    header + 4 + 12 * revolution
+}
+
+/// The little-endian number at a place of the image, 0 where it is not there.
+pub fn number_at(image: &[u8], place: usize) -> u32 {
+    image.get(place..place + 4).map_or(0, |bytes| u32::from_le_bytes([bytes[0], bytes[1], bytes[2], bytes[3]]))
+}
+
+/// The bytes of flux words.
+pub fn flux_bytes(words: &[u16]) -> Vec<u8> {
+    words.iter().flat_map(|word| word.to_be_bytes()).collect()
+}
+
 /// A revolution: its duration and its words.
 #[derive(Clone)]
 pub struct RevolutionPart {
@@ -170,9 +193,7 @@ impl Parts {
                 }
                 bytes
             }
-            Piece::Flux { track, revolution } => {
-                self.tracks[track].revolutions[revolution].words.iter().flat_map(|word| word.to_be_bytes()).collect()
-            }
+            Piece::Flux { track, revolution } => flux_bytes(&self.tracks[track].revolutions[revolution].words),
             Piece::Text { string } => {
                 let text = self.footer.as_ref().and_then(|footer| footer.strings[string].clone()).unwrap_or_default();
                 [&(text.len() as u16).to_le_bytes()[..], &text, &[0]].concat()
@@ -184,16 +205,16 @@ impl Parts {
     fn note_places(&self, placed: &mut Placed) {
         for (track, part) in self.tracks.iter().enumerate() {
             let header = placed.headers[track];
-            set(&mut placed.image, 16 + 4 * usize::from(part.number), &(header as u32).to_le_bytes());
+            set(&mut placed.image, entry_at(part.number.into()), &(header as u32).to_le_bytes());
             for revolution in 0..part.revolutions.len() {
                 let distance = (placed.flux[track][revolution] - header) as u32;
-                set(&mut placed.image, header + 12 + 12 * revolution, &distance.to_le_bytes());
+                set(&mut placed.image, duration_at(header, revolution) + 8, &distance.to_le_bytes());
             }
         }
     }
 }
 
-/// The 48 bytes of a footer.
+/// The bytes of a footer.
 pub fn footer_bytes(footer: &FooterPart, strings: &[u32; 6]) -> Vec<u8> {
     let mut bytes: Vec<u8> = strings.iter().flat_map(|offset| offset.to_le_bytes()).collect();
     bytes.extend(footer.created.to_le_bytes());

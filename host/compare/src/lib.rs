@@ -6,6 +6,8 @@
 #![forbid(unsafe_code)]
 
 pub mod cases;
+pub mod count;
+pub mod difference;
 pub mod generate;
 pub mod guarded;
 pub mod image;

@@ -1,6 +1,8 @@
 //! One call, put to the library and to the reader: answers, every element of every lent buffer, and the guards around them.
 
+use crate::difference::{after, same, same_code, Agreed, Difference};
 use crate::guarded::{Guarded, Same};
+use crate::sequence;
 use scp::raw;
 use scp_reader as reader;
 use std::fmt::Debug;
@@ -23,28 +25,21 @@ pub enum Question {
     Words { times: Vec<u64>, room: usize, places: usize },
 }
 
-/// Where the two differ.
-#[derive(Clone, Debug, PartialEq, Eq)]
-pub struct Difference {
-    pub what: String,
-    pub reader: String,
-    pub library: String,
-}
-
 /// What the lent buffers hold before a call, and the guards.
 const NUMBER: u64 = 0xD1D2_D3D4_D5D6_D7D8;
 const FLOAT: f64 = -12345.678;
 const BYTE: u8 = 0xE9;
 
-/// Puts the question about these bytes (an image, or flux) to both, and gives the reader's refusal number, or 0, where they agree.
-pub fn compare(bytes: &[u8], question: &Question) -> Result<u32, Difference> {
-    match question {
+/// Puts the question about these bytes (an image, or flux) to both.
+pub fn compare(bytes: &[u8], question: &Question) -> Result<Agreed, Difference> {
+    let number = match question {
+        Question::Sequence { calls, words, places } => return sequence::compare(bytes, calls, words, *places),
         Question::Rewrite { track, revolution, duration, words } => rewrite(bytes, *track, *revolution, *duration, words),
-        Question::Sequence { calls, words, places } => crate::sequence::compare(bytes, calls, words, *places),
         Question::Intervals { times, places } => intervals(bytes, *times, *places),
         Question::Words { times, room, places } => words(times, *room, *places),
         _ => ask(bytes, question),
-    }
+    }?;
+    Ok(Agreed { number, rows: Vec::new() })
 }
 
 /// The questions that only read the bytes and fill one buffer.
@@ -99,48 +94,12 @@ fn ask(bytes: &[u8], question: &Question) -> Result<u32, Difference> {
 
 // ---- what the boundary makes of an answer
 
-/// A refusal as the boundary returns it.
-fn code(refusal: reader::Refusal) -> u64 {
-    u64::from(refusal.number) + 256 * refusal.position
-}
-
 /// 15 where the values need more than the places.
-pub(crate) fn within<T>(expected: Result<Vec<T>, reader::Refusal>, places: usize) -> Result<Vec<T>, reader::Refusal> {
+fn within<T>(expected: Result<Vec<T>, reader::Refusal>, places: usize) -> Result<Vec<T>, reader::Refusal> {
     match expected {
         Ok(values) if values.len() > places => Err(reader::Refusal { number: 15, position: 0 }),
         other => other,
     }
-}
-
-/// What a buffer of so many old elements holds after an answer: the values at its start, or all as it was.
-pub(crate) fn after<T: Copy>(old: T, places: usize, values: &[T]) -> Vec<T> {
-    let mut contents = vec![old; places];
-    contents[..values.len()].copy_from_slice(values);
-    contents
-}
-
-/// The reader's refusal number, where the library returned the same code.
-pub(crate) fn same_code<T>(expected: &Result<T, reader::Refusal>, got: u64) -> Result<u32, Difference> {
-    let refusal = expected.as_ref().err();
-    let wanted = refusal.map_or(0, |refusal| code(*refusal));
-    if wanted != got {
-        let tell = |code: u64| format!("{code} (refusal {} at {})", code % 256, code / 256);
-        return Err(Difference { what: "the code returned".to_string(), reader: tell(wanted), library: tell(got) });
-    }
-    Ok(refusal.map_or(0, |refusal| refusal.number))
-}
-
-/// Whether a lent buffer and its guards hold what they are to hold.
-pub(crate) fn same<T: Copy + Same + Debug>(what: &str, lent: &Guarded<T>, wanted: &[T]) -> Result<(), Difference> {
-    if lent.holds(wanted) {
-        return Ok(());
-    }
-    let at = lent.contents().iter().zip(wanted).position(|(a, b)| !a.same(b));
-    let tell = |values: &[T]| match at {
-        Some(at) => format!("{:?} at {at}", values[at]),
-        None => "a guard".to_string(),
-    };
-    Err(Difference { what: what.to_string(), reader: tell(wanted), library: tell(lent.contents()) })
 }
 
 /// Lends the library a buffer of old elements and compares the code and the buffer with what the reader expects.
@@ -160,24 +119,24 @@ fn fill<T: Copy + Same + Debug>(
 
 // ---- the values of answers, as the table of the boundary names them
 
-pub(crate) fn header_numbers(header: &reader::Header) -> [u64; 9] {
+fn header_numbers(header: &reader::Header) -> [u64; 9] {
     let bytes = [header.version, header.disk, header.revolutions, header.start, header.end, header.flags, header.width, header.heads];
     let [a, b, c, d, e, f, g, h] = bytes.map(u64::from);
     [a, b, c, d, e, f, g, h, u64::from(header.checksum)]
 }
 
-pub(crate) fn footer_numbers(footer: &Option<reader::Footer>) -> [u64; 13] {
+fn footer_numbers(footer: &Option<reader::Footer>) -> [u64; 13] {
     let Some(footer) = footer else { return [0; 13] };
     let [a, b, c, d, e, f] = footer.offsets.map(u64::from);
     let [s, h, w, v] = footer.versions.map(u64::from);
     [1, a, b, c, d, e, f, footer.created as u64, footer.modified as u64, s, h, w, v]
 }
 
-pub(crate) fn track_numbers(track: &reader::Track) -> [u64; 4] {
+fn track_numbers(track: &reader::Track) -> [u64; 4] {
     [track.cylinder.into(), track.head.into(), track.place, track.revolutions.into()]
 }
 
-pub(crate) fn revolution_numbers(revolution: &reader::Revolution) -> [u64; 3] {
+fn revolution_numbers(revolution: &reader::Revolution) -> [u64; 3] {
     [revolution.duration.into(), revolution.words.into(), revolution.place]
 }
 

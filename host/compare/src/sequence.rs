@@ -1,7 +1,7 @@
 //! Sequences of calls, three ways: by the reader, by the library in one go, and by the library call by call.
 
+use crate::difference::{after, same, same_code, Agreed, Difference};
 use crate::guarded::Guarded;
-use crate::question::{after, same, same_code, Difference};
 use scp::raw;
 use scp_reader as reader;
 
@@ -9,12 +9,15 @@ use scp_reader as reader;
 pub const CALL: usize = 6;
 pub const ANSWER: usize = 16;
 
+/// The numbers of refusal that no row holds: a call of a sequence is lent no buffer and no times.
+pub const NOT_IN_ROWS: [u32; 2] = [15, 16];
+
 /// What stands in the places for answers before the call.
 const NUMBER: u64 = 0xA1A2_A3A4_A5A6_A7A8;
 const BYTE: u8 = 0x5B;
 
 /// Runs the calls all three ways, and compares codes, answers and images.
-pub fn compare(bytes: &[u8], calls: &[u64], words: &[u8], places: usize) -> Result<u32, Difference> {
+pub fn compare(bytes: &[u8], calls: &[u64], words: &[u8], places: usize) -> Result<Agreed, Difference> {
     let mut wanted = bytes.to_vec();
     let mut answers = vec![NUMBER; places];
     let expected = reader::replay(&mut wanted, calls, words, &mut answers);
@@ -29,14 +32,16 @@ pub fn compare(bytes: &[u8], calls: &[u64], words: &[u8], places: usize) -> Resu
     same("the calls", &lent_calls, calls)?;
     same("the words", &lent_words, words)?;
 
+    let mut agreed = Agreed { number, rows: Vec::new() };
     if expected.is_ok() {
         let mut image = Guarded::new(bytes, BYTE);
         let rows: Vec<u64> = calls.chunks_exact(CALL).flat_map(|call| one_by_one(image.lent(), call, words)).collect();
         let singly = Guarded::new(&after(NUMBER, places, &rows), NUMBER);
         same("the image after single calls", &image, &wanted)?;
         same("the answers of single calls", &singly, &answers)?;
+        agreed.rows = rows.chunks_exact(ANSWER).map(|row| row[0] as u32).collect();
     }
-    Ok(number)
+    Ok(agreed)
 }
 
 /// The row that one call by itself answers.
@@ -66,7 +71,7 @@ fn one_by_one(image: &mut [u8], call: &[u64], words: &[u8]) -> [u64; ANSWER] {
     row
 }
 
-/// The flux of a revolution as how many bytes and their sum.
+/// The flux of a revolution as its file offset, how many bytes and their sum.
 fn flux(image: &[u8], track: u32, revolution: u32, values: &mut [u64]) -> u64 {
     let mut found = [0; 3];
     let code = raw::revolution(image, track, revolution, &mut found);
@@ -75,8 +80,8 @@ fn flux(image: &[u8], track: u32, revolution: u32, values: &mut [u64]) -> u64 {
     }
     let mut bytes = vec![0; 2 * found[1] as usize];
     let code = raw::flux(image, track, revolution, &mut bytes);
-    values[0] = bytes.len() as u64;
-    values[1] = bytes.iter().fold(0u32, |sum, &byte| sum.wrapping_add(byte.into())).into();
+    let sum = bytes.iter().fold(0u32, |sum, &byte| sum.wrapping_add(byte.into()));
+    values[..3].copy_from_slice(&[found[2], bytes.len() as u64, sum.into()]);
     code
 }
 

@@ -2,8 +2,15 @@
 
 use scp::{Reason, Step};
 use scp_compare::cases::every_question;
+use scp_compare::difference::Difference;
+use scp_compare::image::number_at;
 use scp_compare::outside::{image, CAPTURE, OLD_CAPTURE, READ_WRITE, SINGLE_SIDED};
 use scp_compare::question::{compare, Question};
+
+/// The number of the refusal that both give, 0 for none.
+fn number(bytes: &[u8], question: &Question) -> Result<u32, Difference> {
+    compare(bytes, question).map(|agreed| agreed.number)
+}
 
 /// Every question on the image, put to both; and one rewrite of each present revolution.
 fn agree(name: &str, image: &[u8]) {
@@ -44,7 +51,7 @@ fn the_worked_examples_of_the_text_hold() {
     // "BYTES 0x34-0x3F would be the 5th entry (duration5, length5, offset5)."
     let place = scp::track(&capture, 0x50).unwrap().place as usize;
     let fifth = scp::revolution(&capture, 0x50, 4).unwrap();
-    let number = |at: usize| u32::from_le_bytes([capture[at], capture[at + 1], capture[at + 2], capture[at + 3]]);
+    let number = |at: usize| number_at(&capture, at);
     assert_eq!((number(place + 0x34), number(place + 0x38)), (fifth.duration, fifth.words));
     assert_eq!(place as u64 + u64::from(number(place + 0x3C)), fifth.place);
     // "0x00DA = 218", "0x0000, 0x0000, 0x7FFF = 65536 + 65536 + 32767 = 163839"
@@ -92,10 +99,10 @@ fn the_largest_image_is_read_and_a_larger_refused() {
     let mut image = scp::example::image_a();
     image.resize(268_435_456, 0);
     for question in [Question::Validate, Question::Revolution { track: 0, revolution: 0, places: 3 }] {
-        assert_eq!(compare(&image, &question), Ok(0));
+        assert_eq!(number(&image, &question), Ok(0));
     }
     image.push(0);
-    assert_eq!(compare(&image, &Question::Validate), Ok(1));
+    assert_eq!(number(&image, &Question::Validate), Ok(1));
     assert_eq!(scp::header(&image).unwrap_err().reason, Reason::Size);
 }
 
@@ -104,11 +111,11 @@ fn a_sum_fills_all_four_bytes_and_wraps() {
     for (size, sum) in [(70_000, 17_850_980_u32), (17_000_000, 40_033_684)] {
         let mut image = scp::example::image_a();
         image.resize(712 + size, 0xFF);
-        assert_eq!(compare(&image, &Question::Validate), Ok(12));
+        assert_eq!(number(&image, &Question::Validate), Ok(12));
         image[0x0C..0x10].copy_from_slice(&sum.to_le_bytes());
-        assert_eq!(compare(&image, &Question::Validate), Ok(0));
+        assert_eq!(number(&image, &Question::Validate), Ok(0));
         let words = vec![0xFF; 8];
-        assert_eq!(compare(&image, &Question::Rewrite { track: 0, revolution: 0, duration: 0, words }), Ok(0));
+        assert_eq!(number(&image, &Question::Rewrite { track: 0, revolution: 0, duration: 0, words }), Ok(0));
     }
 }
 
@@ -116,10 +123,10 @@ fn a_sum_fills_all_four_bytes_and_wraps() {
 fn the_longest_flux_is_read_and_longer_refused() {
     let mut flux = vec![0; 268_435_456];
     assert_eq!(scp::step(&flux, 134_217_727), Ok(Step::Open { ticks: 65_536 }));
-    assert_eq!(compare(&flux, &Question::Intervals { times: 0, places: 2 }), Ok(0));
+    assert_eq!(number(&flux, &Question::Intervals { times: 0, places: 2 }), Ok(0));
     flux.extend([0, 1]);
-    assert_eq!(compare(&flux, &Question::Intervals { times: 1, places: 2 }), Ok(17));
-    assert_eq!(compare(&flux, &Question::Step { word: 0, places: 3 }), Ok(17));
+    assert_eq!(number(&flux, &Question::Intervals { times: 1, places: 2 }), Ok(17));
+    assert_eq!(number(&flux, &Question::Step { word: 0, places: 3 }), Ok(17));
     let rewrite = scp::rewrite(&mut scp::example::image_a(), 0, 0, 0, &flux);
     assert_eq!(rewrite.unwrap_err().reason, Reason::Words);
 }

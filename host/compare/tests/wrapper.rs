@@ -2,6 +2,7 @@
 
 use scp::{Answer, Call, Refusal};
 use scp_compare::generate;
+use scp_compare::image::flux_bytes;
 use scp_compare::random::Random;
 use scp_reader as reader;
 
@@ -48,8 +49,9 @@ fn expected(image: &mut [u8], call: &Call) -> Result<Answer, reader::Refusal> {
         Call::Track { track: t } => Answer::Track(track(reader::track(image, t)?)),
         Call::Revolution { track, revolution: k } => Answer::Revolution(revolution(reader::revolution(image, track, k)?)),
         Call::Flux { track, revolution } => {
+            let place = reader::revolution(image, track, revolution)?.place;
             let flux = reader::flux(image, track, revolution)?;
-            Answer::Flux { size: flux.len() as u64, sum: flux.iter().map(|&byte| u32::from(byte)).sum() }
+            Answer::Flux { place, size: flux.len() as u64, sum: flux.iter().map(|&byte| u32::from(byte)).sum() }
         }
         Call::Speed { track, revolution } => Answer::Speed(reader::speed(image, track, revolution)?),
         Call::TrackSpeed { track } => Answer::TrackSpeed(reader::track_speed(image, track)?.map(speeds)),
@@ -119,7 +121,7 @@ fn a_replay_answers_as_the_reader_call_by_call() {
 fn flux_and_times_are_those_of_the_reader() {
     let mut random = Random::new(4);
     for _ in 0..4000 {
-        let flux: Vec<u8> = generate::words(&mut random, 20).into_iter().flat_map(|word| word.to_be_bytes()).collect();
+        let flux = flux_bytes(&generate::words(&mut random, 20));
         let word = random.below(22) as u64;
         let step = |found: reader::Step| match found.interval {
             Some(ticks) => scp::Step::Interval { ticks, next: found.next },

@@ -1,7 +1,7 @@
 //! Intervals from flux words, and flux words from times.
 
-use crate::image::{refuse, refuse_at, stretch, GREATEST};
-use crate::{Refusal, Step};
+use crate::answers::{refuse, refuse_at, Refusal, Step};
+use crate::image::{array, GREATEST};
 
 /// The rules, Flux and time: the ticks of a zero word.
 const ZERO_WORD: u64 = 65_536;
@@ -16,8 +16,7 @@ pub(crate) fn check(flux: &[u8]) -> Result<(), Refusal> {
 
 /// The rules, Layout: flux words are 16 bits, big endian; none past the end.
 fn word_at(flux: &[u8], word: u64) -> Option<u16> {
-    let taken = stretch(flux, word.checked_mul(2)?, 2)?.try_into().ok()?;
-    Some(u16::from_be_bytes(taken))
+    array(flux, word.checked_mul(2)?).map(u16::from_be_bytes)
 }
 
 /// The rules, Flux and time: from a word number on, to the next closing word, or the open time.

@@ -1,8 +1,9 @@
 //! Parsing of a whole image into owned structures, with the refusals 1 to 11, 13 and 14.
 
 use std::collections::BTreeMap;
+use std::ops::Range;
 
-use crate::{Footer, Header, Refusal, Revolution};
+use crate::answers::{refuse, refuse_at, Footer, Header, Refusal, Revolution};
 
 /// The rules, refusal 1: the greatest length; refusal 17 has the same bound.
 pub(crate) const GREATEST: u64 = 268_435_456;
@@ -69,20 +70,20 @@ impl TrackData {
     }
 }
 
-/// The rules, Numbers of refusal: a refusal at position 0.
-pub(crate) fn refuse(number: u32) -> Refusal {
-    refuse_at(number, 0)
+/// A stretch given by start and length, as a range of indices.
+pub(crate) fn range(start: u64, length: u64) -> Option<Range<usize>> {
+    let end = start.checked_add(length)?;
+    Some(start.try_into().ok()?..end.try_into().ok()?)
 }
 
-/// The rules, Numbers of refusal: a refusal at a string number, track index or index of a time.
-pub(crate) fn refuse_at(number: u32, position: u64) -> Refusal {
-    Refusal { number, position }
-}
-
-/// The bytes of a stretch given by start and length, if all of them are there.
+/// The bytes of a stretch, if all of them are there.
 pub(crate) fn stretch(bytes: &[u8], start: u64, length: u64) -> Option<&[u8]> {
-    let end = usize::try_from(start.checked_add(length)?).ok()?;
-    bytes.get(usize::try_from(start).ok()?..end)
+    bytes.get(range(start, length)?)
+}
+
+/// The N bytes from a place on, if all of them are there.
+pub(crate) fn array<const N: usize>(bytes: &[u8], place: u64) -> Option<[u8; N]> {
+    stretch(bytes, place, N as u64)?.try_into().ok()
 }
 
 /// The rules, refusal 12: the sum of all bytes from 0x10, not yet reduced.
@@ -104,25 +105,22 @@ fn body<'a>(image: &'a [u8], header: &Header) -> &'a [u8] {
 
 /// A byte.
 fn byte(bytes: &[u8], place: u64) -> Option<u8> {
-    stretch(bytes, place, 1)?.first().copied()
+    array(bytes, place).map(u8::from_le_bytes)
 }
 
 /// The rules, Layout: a little-endian number of 16 bits.
 fn number16(bytes: &[u8], place: u64) -> Option<u16> {
-    let taken = stretch(bytes, place, 2)?.try_into().ok()?;
-    Some(u16::from_le_bytes(taken))
+    array(bytes, place).map(u16::from_le_bytes)
 }
 
 /// The rules, Layout: a little-endian number of 32 bits.
 fn number32(bytes: &[u8], place: u64) -> Option<u32> {
-    let taken = stretch(bytes, place, 4)?.try_into().ok()?;
-    Some(u32::from_le_bytes(taken))
+    array(bytes, place).map(u32::from_le_bytes)
 }
 
 /// The rules, Layout: a signed little-endian number of 64 bits.
 fn signed64(bytes: &[u8], place: u64) -> Option<i64> {
-    let taken = stretch(bytes, place, 8)?.try_into().ok()?;
-    Some(i64::from_le_bytes(taken))
+    array(bytes, place).map(i64::from_le_bytes)
 }
 
 /// The rules, refusals 1 to 6, in this order.
@@ -200,7 +198,7 @@ fn read_footer(last: &[u8]) -> Option<Footer> {
         ],
         created: signed64(last, 0x18)?,
         modified: signed64(last, 0x20)?,
-        versions: stretch(last, 0x28, 4)?.try_into().ok()?,
+        versions: array(last, 0x28)?,
     })
 }
 

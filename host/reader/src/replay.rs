@@ -1,7 +1,8 @@
 //! A sequence of calls on one image, each given as a row of numbers and answered by one.
 
-use crate::image::refuse;
-use crate::{Footer, Header, Refusal, Revolution, Track};
+use crate::answers::{refuse, Footer, Header, Refusal, Revolution, Track};
+use crate::questions;
+use crate::rewrite::rewrite;
 
 /// A call: kind, track, revolution, duration, and start and length of its words.
 const CALL: usize = 6;
@@ -42,15 +43,15 @@ fn cut(words: &[u8], start: u64, length: u64) -> &[u8] {
 /// The values that answer a call, or its refusal; a kind that is not known is a validation.
 fn answer_to(image: &mut [u8], kind: u64, (track, revolution): (u32, u32), duration: u32, words: &[u8]) -> Result<Vec<u64>, Refusal> {
     match kind {
-        1 => crate::header(image).map(header_values),
-        2 => crate::footer(image).map(footer_values),
-        3 => crate::track(image, track).map(track_values),
-        4 => crate::revolution(image, track, revolution).map(revolution_values),
-        5 => crate::flux(image, track, revolution).map(flux_values),
-        6 => crate::speed(image, track, revolution).map(speed_values),
-        7 => crate::track_speed(image, track).map(track_speed_values),
-        8 => crate::rewrite(image, track, revolution, duration, words).map(|()| Vec::new()),
-        _ => crate::validate(image).map(|()| Vec::new()),
+        1 => questions::header(image).map(header_values),
+        2 => questions::footer(image).map(footer_values),
+        3 => questions::track(image, track).map(track_values),
+        4 => questions::revolution(image, track, revolution).map(revolution_values),
+        5 => flux_values(image, track, revolution),
+        6 => questions::speed(image, track, revolution).map(speed_values),
+        7 => questions::track_speed(image, track).map(track_speed_values),
+        8 => rewrite(image, track, revolution, duration, words).map(|()| Vec::new()),
+        _ => questions::validate(image).map(|()| Vec::new()),
     }
 }
 
@@ -103,10 +104,12 @@ fn revolution_values(revolution: Revolution) -> Vec<u64> {
     vec![u64::from(revolution.duration), u64::from(revolution.words), revolution.place]
 }
 
-/// How many bytes, and their sum modulo 2^32.
-fn flux_values(flux: Vec<u8>) -> Vec<u64> {
+/// File offset of the flux, how many bytes it has, and their sum modulo 2^32.
+fn flux_values(image: &[u8], track: u32, revolution: u32) -> Result<Vec<u64>, Refusal> {
+    let found = questions::revolution(image, track, revolution)?;
+    let flux = questions::flux(image, track, revolution)?;
     let sum: u64 = flux.iter().map(|&byte| u64::from(byte)).sum();
-    vec![flux.len() as u64, sum % (1 << 32)]
+    Ok(vec![found.place, flux.len() as u64, sum % (1 << 32)])
 }
 
 /// 1 and the bit pattern of the speed; or nothing.

@@ -1,8 +1,8 @@
 //! Rewriting of one revolution.
 
+use crate::answers::{refuse, Refusal, Revolution};
 use crate::flux;
-use crate::image::{refuse, true_sum, Image, FIRST, FOOTER};
-use crate::{Refusal, Revolution};
+use crate::image::{range, true_sum, Image, FIRST, FOOTER};
 
 /// A set of bytes of the image: a mark for each of them.
 struct Bytes {
@@ -122,6 +122,5 @@ fn put(image: &mut [u8], place: u64, bytes: &[u8]) {
 
 /// The part of a slice given by start and length, if all of it is there.
 fn part_mut<T>(all: &mut [T], start: u64, length: u64) -> Option<&mut [T]> {
-    let end = usize::try_from(start.checked_add(length)?).ok()?;
-    all.get_mut(usize::try_from(start).ok()?..end)
+    all.get_mut(range(start, length)?)
 }

@@ -581,7 +581,7 @@ fn replay_answers_questions_in_rows() {
         &[],
         &[0, 0, 0, 0, 688, 1],
         &[0, 0, 8_000_000, 4, 704],
-        &[0, 0, 8, 0xA0 + 1 + 0xF0],
+        &[0, 0, 704, 8, 0xA0 + 1 + 0xF0],
         &[0, 0, 1, rpm],
         &[0, 0, 1, rpm, rpm],
         &[],
@@ -590,6 +590,14 @@ fn replay_answers_questions_in_rows() {
     let mut image = image_a();
     replays(&mut image, &calls, &[], &expected);
     assert_eq!(image, image_a());
+}
+
+#[test]
+fn replay_gives_the_file_offset_of_flux_and_of_none_at_the_end() {
+    let mut image = two_tracks();
+    put_revolution(&mut image, 748, [0, 0, 36]);
+    let calls = [(0, 1), (3, 0), (3, 1), (3, 2)].map(|(track, revolution)| [5, track, revolution, 0, 0, 0]);
+    replays(&mut image, &calls, &[], &[&[0, 0, 720, 4, 3 + 4], &[0, 0, 760, 4, 5 + 6], &[0, 0, 768], &[14]]);
 }
 
 #[test]
@@ -611,7 +619,7 @@ fn replay_gives_each_call_the_image_as_the_last_one_left_it() {
     let expected: [&[u64]; 12] = [
         &[],
         &[0, 0, 0x16, 0, 1, 0, 0, 1, 0, 0, 885],
-        &[0, 0, 8, 0x41 + 1 + 0xF0],
+        &[0, 0, 704, 8, 0x41 + 1 + 0xF0],
         &[],
         &[0, 0, 5, 1, 704],
         &[17],

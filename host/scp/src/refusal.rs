@@ -1,6 +1,6 @@
 //! Refusals: a reason with its number, and a position.
 
-use crate::STRING_NAMES;
+use crate::answers::STRING_NAMES;
 use std::fmt;
 
 /// Why a call is refused. The number of a reason is its discriminant, 1 to 18.
@@ -114,7 +114,7 @@ impl Reason {
 }
 
 /// A refusal: why, and where (a string, track or time number; 0 for the other reasons).
-#[derive(Clone, Copy, Debug, PartialEq, Eq, Hash)]
+#[derive(Clone, Copy, PartialEq, Eq, Hash)]
 pub struct Refusal {
     /// Why.
     pub reason: Reason,
@@ -163,6 +163,18 @@ impl fmt::Display for Refusal {
             (Some(kind), _) => write!(f, " ({kind} {position})"),
             (None, _) => Ok(()),
         }
+    }
+}
+
+impl fmt::Debug for Refusal {
+    /// As [`fmt::Display`], so that a failed `unwrap` says what is wrong, too.
+    ///
+    /// ```
+    /// let refusal = scp::track(&scp::example::image_a(), 1).unwrap_err();
+    /// assert_eq!(format!("{refusal:?}"), "refused 13 (Absent) at 0: the track asked for is not in the image");
+    /// ```
+    fn fmt(&self, f: &mut fmt::Formatter<'_>) -> fmt::Result {
+        fmt::Display::fmt(self, f)
     }
 }
 

@@ -1,6 +1,8 @@
 //! Sequences of calls on one image, run by the archive in one go.
 
-use crate::{raw, Footer, Header, Refusal, Revolution, Track, TrackSpeeds};
+use crate::answers::{Footer, Header, Revolution, Track, TrackSpeeds};
+use crate::raw;
+use crate::refusal::Refusal;
 
 /// A call of a sequence, with its arguments.
 #[derive(Clone, Debug, PartialEq, Eq)]
@@ -68,11 +70,13 @@ pub enum Answer {
     Track(Track),
     /// A revolution.
     Revolution(Revolution),
-    /// How many bytes a revolution's flux has, and their sum modulo 2^32.
+    /// A revolution's flux: that part of the image as the calls before left it.
     Flux {
-        /// How many.
+        /// Its file offset.
+        place: u64,
+        /// How many bytes it has.
         size: u64,
-        /// Their sum.
+        /// Their sum modulo 2^32.
         sum: u32,
     },
     /// A revolution's speed, or none.
@@ -118,7 +122,7 @@ impl Call {
             Call::Footer => Answer::Footer(Footer::of_numbers(&first(values))),
             Call::Track { .. } => Answer::Track(Track::of_numbers(first(values))),
             Call::Revolution { .. } => Answer::Revolution(Revolution::of_numbers(first(values))),
-            Call::Flux { .. } => Answer::Flux { size: values[0], sum: values[1] as u32 },
+            Call::Flux { .. } => Answer::Flux { place: values[0], size: values[1], sum: values[2] as u32 },
             Call::Speed { .. } => Answer::Speed((values[0] == 1).then(|| f64::from_bits(values[1]))),
             Call::TrackSpeed { .. } => Answer::TrackSpeed(
                 (values[0] == 1).then(|| TrackSpeeds { slowest: f64::from_bits(values[1]), fastest: f64::from_bits(values[2]) }),
@@ -140,8 +144,10 @@ fn first<const N: usize>(values: &[u64]) -> [u64; N] {
 ///
 /// let mut image = scp::example::image_a();
 /// let words = vec![0x01, 0x40, 0x00, 0x00, 0x00, 0x01, 0x00, 0xF0];
-/// let calls = [Call::Rewrite { track: 0, revolution: 0, duration: 8_000_000, words }, Call::Validate];
-/// assert_eq!(scp::replay(&mut image, &calls), [Ok(Answer::Rewritten), Ok(Answer::Valid)]);
+/// let rewrite = Call::Rewrite { track: 0, revolution: 0, duration: 8_000_000, words };
+/// let calls = [rewrite, Call::Validate, Call::Flux { track: 0, revolution: 0 }];
+/// let flux = Answer::Flux { place: 704, size: 8, sum: 306 };
+/// assert_eq!(scp::replay(&mut image, &calls), [Ok(Answer::Rewritten), Ok(Answer::Valid), Ok(flux)]);
 /// assert_eq!(scp::header(&image)?.checksum, 885);
 /// # Ok::<(), scp::Refusal>(())
 /// ```
@@ -150,6 +156,6 @@ pub fn replay(image: &mut [u8], calls: &[Call]) -> Vec<Result<Answer, Refusal>> 
     let rows: Vec<u64> = calls.iter().flat_map(|call| call.row(&mut words)).collect();
     let mut answers = vec![0; ANSWER * calls.len()];
     let code = raw::replay(image, &rows, &words, &mut answers);
-    debug_assert_eq!(code, 0, "there are 16 places a call");
+    assert_eq!(code, 0, "there are 16 places a call");
     calls.iter().zip(answers.chunks_exact(ANSWER)).map(|(call, row)| call.answer(row)).collect()
 }

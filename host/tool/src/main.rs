@@ -4,6 +4,7 @@
 mod arguments;
 mod checksum;
 mod dates;
+mod destination;
 mod failure;
 mod files;
 mod flux;

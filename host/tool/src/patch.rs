@@ -5,8 +5,9 @@ use std::io::Write;
 
 use crate::arguments::{number_of, place_of, Arguments, Command};
 use crate::checksum::{say_change, Checksum};
+use crate::destination::{Destination, Kind};
 use crate::failure::Failure;
-use crate::files::{shown, Destination, Input, Kind};
+use crate::files::{shown, Input};
 use crate::times::words_of_times;
 
 /// The command.

@@ -6,8 +6,9 @@ use scp::{Answer, Call};
 
 use crate::arguments::{Arguments, Command};
 use crate::checksum::{say_change, Checksum};
+use crate::destination::{Destination, Kind};
 use crate::failure::Failure;
-use crate::files::{shown, Destination, Input, Kind};
+use crate::files::{shown, Input};
 use crate::numbers::number;
 
 /// The command.
@@ -150,7 +151,7 @@ fn say_answer(answer: Answer) -> String {
             format!("cylinder {} head {} offset {} revolutions {}", track.cylinder, track.head, track.place, track.revolutions)
         }
         Answer::Revolution(found) => format!("duration {} words {} offset {}", found.duration, found.words, found.place),
-        Answer::Flux { size, sum } => format!("bytes {size} sum {sum}"),
+        Answer::Flux { place, size, sum } => format!("offset {place} bytes {size} sum {sum}"),
         Answer::Speed(speed) => speed.map_or("none".to_string(), |rpm| format!("{rpm:?} rpm")),
         Answer::TrackSpeed(None) => "none".to_string(),
         Answer::TrackSpeed(Some(speeds)) => format!("slowest {:?} rpm fastest {:?} rpm", speeds.slowest, speeds.fastest),

@@ -4,7 +4,7 @@ use std::collections::BTreeMap;
 
 use super::canvas::Canvas;
 use super::scale::{greatest_shown, Axis, Histogram};
-use super::Subject;
+use super::subject::Subject;
 use crate::numbers::{counted, grouped, microseconds, milliseconds, TICKS_PER_MICROSECOND, TICKS_PER_MILLISECOND};
 
 /// The size of the drawing.

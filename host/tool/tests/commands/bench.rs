@@ -149,7 +149,7 @@ pub fn with_footer(mut image: Vec<u8>, strings: [&[u8]; 6], created: i64, modifi
 }
 
 /// Stores the true sum, or 0 in a read/write image.
-fn store_sum(image: &mut [u8]) {
+pub fn store_sum(image: &mut [u8]) {
     let sum: u32 = image[16..].iter().map(|&byte| u32::from(byte)).sum();
     let stored = if image[8] & 0x10 == 0 { sum } else { 0 };
     image[12..16].copy_from_slice(&stored.to_le_bytes());

@@ -2,7 +2,7 @@
 
 use std::fs;
 
-use crate::bench::{damaged_a, image, with_footer, Bench};
+use crate::bench::{damaged_a, image, store_sum, with_footer, Bench};
 
 /// The new words of the example: 320, 65,537 and 240 ticks.
 const NEW_WORDS: [u8; 8] = [0x01, 0x40, 0x00, 0x00, 0x00, 0x01, 0x00, 0xF0];
@@ -120,8 +120,7 @@ fn shared_bytes_are_refused() {
     let mut shared = image(0, &[(0, &[(1, &[5, 6]), (2, &[7, 8])])]);
     let distance = 688 + 4 + 12 + 8;
     shared[distance] -= 2;
-    let sum: u32 = shared[16..].iter().map(|&byte| u32::from(byte)).sum();
-    shared[12..16].copy_from_slice(&sum.to_le_bytes());
+    store_sum(&mut shared);
     bench.put("s.scp", &shared);
     bench.put("one.txt", b"9\n");
     bench.fails("patch s.scp b.scp 0 0 --duration 1 --times one.txt", 1, "s.scp: refused 18 (Shared) at 0");

@@ -31,7 +31,7 @@ const ANSWERS: &str = "\
 4: footer: none
 6: track 0: cylinder 0 head 0 offset 688 revolutions 1
 7: revolution 0 0: duration 8000000 words 4 offset 704
-8: flux 0 0: bytes 8 sum 401
+8: flux 0 0: offset 704 bytes 8 sum 401
 9: speed 0 0: 300.0 rpm
 10: track-speed 0: slowest 300.0 rpm fastest 300.0 rpm
 11: rewrite 0 0 8000000 (8 bytes): ok

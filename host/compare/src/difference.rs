@@ -1,0 +1,56 @@
+//! Where library and reader agree, and where they differ: in the code that a call returns, or in a buffer that it was lent.
+
+use crate::guarded::{Guarded, Same};
+use scp_reader as reader;
+use std::fmt::Debug;
+
+/// What the two agree on: the number of the call's refusal, 0 for none, and of a sequence that of each row.
+#[derive(Clone, Debug, PartialEq, Eq)]
+pub struct Agreed {
+    pub number: u32,
+    pub rows: Vec<u32>,
+}
+
+/// Where the two differ.
+#[derive(Clone, Debug, PartialEq, Eq)]
+pub struct Difference {
+    pub what: String,
+    pub reader: String,
+    pub library: String,
+}
+
+/// A refusal as the boundary returns it.
+fn code(refusal: reader::Refusal) -> u64 {
+    u64::from(refusal.number) + 256 * refusal.position
+}
+
+/// What a buffer of so many old elements holds after an answer: the values at its start, or all as it was.
+pub fn after<T: Copy>(old: T, places: usize, values: &[T]) -> Vec<T> {
+    let mut contents = vec![old; places];
+    contents[..values.len()].copy_from_slice(values);
+    contents
+}
+
+/// The reader's refusal number, where the library returned the same code.
+pub fn same_code<T>(expected: &Result<T, reader::Refusal>, got: u64) -> Result<u32, Difference> {
+    let refusal = expected.as_ref().err();
+    let wanted = refusal.map_or(0, |refusal| code(*refusal));
+    if wanted != got {
+        let tell = |code: u64| format!("{code} (refusal {} at {})", code % 256, code / 256);
+        return Err(Difference { what: "the code returned".to_string(), reader: tell(wanted), library: tell(got) });
+    }
+    Ok(refusal.map_or(0, |refusal| refusal.number))
+}
+
+/// Whether a lent buffer and its guards hold what they are to hold.
+pub fn same<T: Copy + Same + Debug>(what: &str, lent: &Guarded<T>, wanted: &[T]) -> Result<(), Difference> {
+    if lent.holds(wanted) {
+        return Ok(());
+    }
+    let at = lent.contents().iter().zip(wanted).position(|(a, b)| !a.same(b));
+    let tell = |values: &[T]| match at {
+        Some(at) => format!("{:?} at {at}", values[at]),
+        None => "a guard".to_string(),
+    };
+    Err(Difference { what: what.to_string(), reader: tell(wanted), library: tell(lent.contents()) })
+}

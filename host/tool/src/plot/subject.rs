@@ -1,0 +1,48 @@
+//! What is drawn: a revolution with its intervals.
+
+use crate::failure::Failure;
+use crate::files::Input;
+use crate::flux::each_interval;
+
+/// A revolution to be drawn.
+pub struct Subject {
+    /// The image's name.
+    pub name: String,
+    /// The track's number.
+    pub track: u32,
+    /// Its cylinder.
+    pub cylinder: u32,
+    /// Its head.
+    pub head: u32,
+    /// The revolution's number.
+    pub revolution: u32,
+    /// Its stored duration in ticks.
+    pub duration: u32,
+    /// Its speed, if it has one.
+    pub rpm: Option<f64>,
+    /// Its intervals in ticks.
+    pub intervals: Vec<u64>,
+    /// Its open time in ticks.
+    pub open: u64,
+}
+
+impl Subject {
+    /// Asks the library for all that is drawn.
+    pub fn of(input: &Input, (track, revolution): (u32, u32)) -> Result<Subject, Failure> {
+        let on = input.ask(|image| scp::track(image, track))?;
+        let found = input.ask(|image| scp::revolution(image, track, revolution))?;
+        let rpm = input.ask(|image| scp::speed(image, track, revolution))?;
+        let mut intervals = Vec::new();
+        let open = each_interval(input, (track, revolution), |ticks| {
+            intervals.push(ticks);
+            Ok(())
+        })?;
+        let (name, duration) = (input.name.clone(), found.duration);
+        Ok(Subject { name, track, cylinder: on.cylinder, head: on.head, revolution, duration, rpm, intervals, open })
+    }
+
+    /// All ticks of the flux, the open time among them.
+    pub fn total(&self) -> u64 {
+        self.intervals.iter().sum::<u64>() + self.open
+    }
+}
