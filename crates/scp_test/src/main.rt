@@ -3,111 +3,147 @@
 use flux::Filled;
 use refusals::Refusal;
 use scp::FooterAnswer;
+use scp::FooterData;
 use scp::HeaderAnswer;
 use scp::SpeedAnswer;
 use scp::TrackAnswer;
+use scp::TrackData;
 use scp::TrackSpeedAnswer;
 use scp_lookup::RevolutionAnswer;
+use scp_open::Header;
 use scp_speed::Speed;
+use scp_speed::TrackSpeeds;
+use scp_tracks::RevolutionData;
 
 fn text(s: &[u8]) {
     io::write_all(1, s);
 }
 
-// A space and a number.
-fn number(n: u64) {
-    text(b" ");
+fn newline() {
+    text(b"\n");
+}
+
+// A name and a number.
+fn field(name: &[u8], n: u64) {
+    text(name);
     io::print_decimal(1, n);
 }
 
-fn wide(x: u8) -> u64 {
-    x as u64
+// A name and a number before what is said of it.
+fn title(name: &[u8], n: u32) {
+    field(name, n as u64);
+    text(b":");
+}
+
+// A space and a number.
+fn number(n: u64) {
+    field(b" ", n);
+}
+
+fn number_32(n: u32) {
+    number(n as u64);
+}
+
+fn number_8(n: u8) {
+    number(n as u64);
+}
+
+fn sign(n: i64) {
+    if n < 0 {
+        text(b" -");
+    } else {
+        text(b" +");
+    }
 }
 
 // A signed number: its sign, and the bits of its two's complement in two halves.
 fn signed(n: i64) {
     let mut bytes = [0u8; 8];
     octets::put_le64(&mut bytes, 0, n);
-    if n < 0 {
-        text(b" -");
-    } else {
-        text(b" +");
-    }
+    sign(n);
     io::print_hex(1, octets::le32(&bytes, 4) as u64, 8);
     io::print_hex(1, octets::le32(&bytes, 0) as u64, 8);
 }
 
 fn print_refusal(r: Refusal) {
-    text(b" refused");
-    number(r.number as u64);
-    text(b" at");
-    number(r.position);
+    field(b" refused ", r.number as u64);
+    field(b" at ", r.position);
 }
 
 fn flag(name: &[u8], on: bool) {
     text(name);
     if on {
-        text(b" 1");
+        number(1);
     } else {
-        text(b" 0");
+        number(0);
     }
 }
 
+fn header_fields(h: Header) {
+    text(b"header");
+    number_8(h.version);
+    number_8(h.disk);
+    number_8(h.revolutions);
+    number_8(h.start);
+    number_8(h.end);
+    number_8(h.flags);
+    number_8(h.width);
+    number_8(h.heads);
+    number_32(h.checksum);
+}
+
+// The header's fields, or why every question is refused; whether there is more to ask.
 fn print_header(image: &[u8]) -> bool {
     match scp::header(image) {
         HeaderAnswer::Found(h) => {
-            text(b"header");
-            number(wide(h.version));
-            number(wide(h.disk));
-            number(wide(h.revolutions));
-            number(wide(h.start));
-            number(wide(h.end));
-            number(wide(h.flags));
-            number(wide(h.width));
-            number(wide(h.heads));
-            number(h.checksum as u64);
-            text(b"\n");
+            header_fields(h);
+            newline();
             true
         }
         HeaderAnswer::Refused(r) => {
             text(b"asked:");
             print_refusal(r);
-            text(b"\n");
+            newline();
             false
         }
     }
 }
 
+fn footer_fields(f: FooterData) {
+    number_32(f.maker);
+    number_32(f.model);
+    number_32(f.serial);
+    number_32(f.creator);
+    number_32(f.application);
+    number_32(f.comments);
+    signed(f.created);
+    signed(f.modified);
+    number_8(f.software);
+    number_8(f.hardware);
+    number_8(f.firmware);
+    number_8(f.format);
+}
+
 fn print_footer(image: &[u8]) {
     text(b"footer");
     match scp::footer(image) {
-        FooterAnswer::Found(f) => {
-            number(f.maker as u64);
-            number(f.model as u64);
-            number(f.serial as u64);
-            number(f.creator as u64);
-            number(f.application as u64);
-            number(f.comments as u64);
-            signed(f.created);
-            signed(f.modified);
-            number(wide(f.software));
-            number(wide(f.hardware));
-            number(wide(f.firmware));
-            number(wide(f.format));
-        }
+        FooterAnswer::Found(f) => footer_fields(f),
         FooterAnswer::None => text(b" none"),
         FooterAnswer::Refused(r) => print_refusal(r),
     }
-    text(b"\n");
+}
+
+fn print_rpm(s: Speed) {
+    match s {
+        Speed::Rpm(x) => flag(b" 300", x == 300.0),
+        Speed::None => text(b" none"),
+    }
 }
 
 fn print_speed(image: &[u8], t: u32, k: u32) {
     text(b" speed");
     match scp::speed(image, t, k) {
-        SpeedAnswer::Found(s) => match s {
-            Speed::Rpm(x) => flag(b" 300", x == 300.0),
-            Speed::None => text(b" none"),
-        },
+        SpeedAnswer::Found(s) => print_rpm(s),
         SpeedAnswer::Refused(r) => print_refusal(r),
     }
 }
@@ -116,61 +152,71 @@ fn print_intervals(image: &[u8], t: u32, k: u32) {
     text(b" intervals");
     match scp::revolution_intervals(image, t, k, &mut [0; 2]) {
         Filled::Places { filled, open } => {
-            text(b" filled");
-            number(filled as u64);
-            text(b" open");
-            number(open);
+            field(b" filled ", filled as u64);
+            field(b" open ", open);
         }
         Filled::Refused(r) => print_refusal(r),
     }
 }
 
+fn revolution_fields(d: RevolutionData) {
+    let place = d.place;
+    number_32(d.duration);
+    number_32(d.words);
+    number(place.0);
+}
+
+fn print_flux(image: &[u8], t: u32, k: u32) {
+    field(b" flux ", scp::flux(image, t, k).len() as u64);
+}
+
 fn print_revolution(image: &[u8], t: u32, k: u32) {
-    text(b"turn");
-    number(k as u64);
-    text(b":");
+    title(b"turn ", k);
     match scp::revolution(image, t, k) {
         RevolutionAnswer::Found(d) => {
-            let place = d.place;
-            number(d.duration as u64);
-            number(d.words as u64);
-            number(place.0);
-            text(b" flux");
-            number(scp::flux(image, t, k).len() as u64);
+            revolution_fields(d);
+            print_flux(image, t, k);
             print_speed(image, t, k);
             print_intervals(image, t, k);
+            newline();
         }
-        RevolutionAnswer::Refused(r) => print_refusal(r),
+        RevolutionAnswer::Refused(r) => {
+            print_refusal(r);
+            newline();
+        }
     }
-    text(b"\n");
+}
+
+fn speed_fields(s: TrackSpeeds) {
+    flag(b" slowest 300", s.slowest == 300.0);
+    flag(b" fastest 300", s.fastest == 300.0);
 }
 
 fn print_speeds(image: &[u8], t: u32) {
     text(b"speeds");
     match scp::track_speed(image, t) {
-        TrackSpeedAnswer::Found(s) => {
-            flag(b" slowest 300", s.slowest == 300.0);
-            flag(b" fastest 300", s.fastest == 300.0);
-        }
+        TrackSpeedAnswer::Found(s) => speed_fields(s),
         TrackSpeedAnswer::None => text(b" none"),
         TrackSpeedAnswer::Refused(r) => print_refusal(r),
     }
-    text(b"\n");
+}
+
+fn track_fields(d: TrackData) {
+    let place = d.place;
+    number_32(d.cylinder);
+    number_32(d.head);
+    number(place.0);
+    number_32(d.revolutions);
 }
 
 fn print_track(image: &[u8], t: u32) {
-    text(b"track");
-    number(t as u64);
-    text(b":");
+    title(b"track ", t);
     match scp::track(image, t) {
         TrackAnswer::Found(d) => {
-            let place = d.place;
-            number(d.cylinder as u64);
-            number(d.head as u64);
-            number(place.0);
-            number(d.revolutions as u64);
-            text(b"\n");
+            track_fields(d);
+            newline();
             print_speeds(image, t);
+            newline();
             print_revolution(image, t, 0);
             print_revolution(image, t, 4);
             print_revolution(image, t, 5);
@@ -178,7 +224,7 @@ fn print_track(image: &[u8], t: u32) {
         }
         TrackAnswer::Refused(r) => {
             print_refusal(r);
-            text(b"\n");
+            newline();
         }
     }
 }
@@ -186,6 +232,7 @@ fn print_track(image: &[u8], t: u32) {
 fn ask(image: &[u8]) {
     if print_header(image) {
         print_footer(image);
+        newline();
         print_track(image, 0);
         print_track(image, 1);
         print_track(image, 167);
@@ -206,7 +253,7 @@ fn show_file(i: usize) {
     let name = &path[..length];
     text(b"== ");
     text(name);
-    text(b"\n");
+    newline();
     let fd = os::open_read(name);
     if fd < 0 {
         os::fail(name);
