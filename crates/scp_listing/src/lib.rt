@@ -16,7 +16,11 @@ fn text(s: &[u8]) {
     io::write_all(1, s);
 }
 
-// A word, a space before and after it, and a number.
+fn newline() {
+    text(b"\n");
+}
+
+// A name and a number.
 fn field(name: &[u8], n: u64) {
     text(name);
     io::print_decimal(1, n);
@@ -26,7 +30,7 @@ fn field(name: &[u8], n: u64) {
 fn print_refusal(r: Refusal) {
     field(b"refused ", r.number as u64);
     field(b" at ", r.position);
-    text(b"\n");
+    newline();
 }
 
 // The flux of a revolution, or nothing where it does not lie in the image, as it does in every valid one.
@@ -46,12 +50,17 @@ fn flux_of(image: &[u8], data: RevolutionData) -> &[u8] {
     &image[start..end]
 }
 
-// The intervals and the open time of flux, in one pass: a step for each interval, of which there are fewer than bytes, and one more for the
-// open time.
-fn print_flux(flux: &[u8]) {
+// How many intervals flux has, and its open time.
+struct Counted {
+    intervals: u64,
+    open: u64,
+}
+
+// The count of the intervals and the open time, in one pass: a step for each interval, of which there are fewer than bytes, and one more for
+// the open time.
+fn count_flux(flux: &[u8]) -> Counted {
     let mut word: usize = 0;
-    let mut count: u64 = 0;
-    let mut open: u64 = 0;
+    let mut intervals: u64 = 0;
     let mut left = flux.len();
     while 0 < left {
         left -= 1;
@@ -63,22 +72,23 @@ fn print_flux(flux: &[u8]) {
                 next,
             } => {
                 word = next.word;
-                count = std::num::wrapping_add_u64(count, 1);
+                intervals = std::num::wrapping_add_u64(intervals, 1);
             }
-            Step::Open {
-                open: found,
-                next: _,
-            } => {
-                open = found;
-                left = 0;
+            Step::Open { open, next: _ } => {
+                return Counted { intervals, open };
             }
             Step::Refused(_) => {
                 left = 0;
             }
         }
     }
-    field(b" intervals ", count);
-    field(b" open ", open);
+    Counted { intervals, open: 0 }
+}
+
+fn print_flux(flux: &[u8]) {
+    let counted = count_flux(flux);
+    field(b" intervals ", counted.intervals);
+    field(b" open ", counted.open);
 }
 
 // The line of revolution k of track t, whose header stands at the entry.
@@ -89,7 +99,7 @@ fn print_revolution(image: &[u8], t: u32, entry: u32, k: u32) {
     field(b" ticks ", data.duration as u64);
     field(b" words ", data.words as u64);
     print_flux(flux_of(image, data));
-    text(b"\n");
+    newline();
 }
 
 // The lines of a track's revolutions; none where its entry is 0.
@@ -119,13 +129,17 @@ fn count_tracks(image: &[u8]) -> u64 {
     n
 }
 
-// The line of the image, and the lines of its tracks.
+// The line of the image.
 fn print_image(image: &[u8]) {
     field(b"ok ", image.len() as u64);
     field(b" tracks ", count_tracks(image));
     field(b" turns ", scp_fields::revolutions(image) as u64);
     field(b" sum ", scp_fields::checksum(image) as u64);
-    text(b"\n");
+    newline();
+}
+
+// The lines of all tracks.
+fn print_tracks(image: &[u8]) {
     let mut t: usize = 0;
     while t < scp_fields::TRACK_SLOTS {
         print_track(image, t as u32);
@@ -141,6 +155,7 @@ pub fn list(image: &[u8]) -> Validated
     match answer {
         Validated::Valid => {
             print_image(image);
+            print_tracks(image);
         }
         Validated::Refused(r) => {
             print_refusal(r);

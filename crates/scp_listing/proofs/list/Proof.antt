@@ -14,6 +14,9 @@ enum-told c = search needs
 print-image-requires : tie.Need-print-image-requires
 print-image-requires c κs = search needs
 
+print-tracks-requires : tie.Need-print-tracks-requires
+print-tracks-requires c κs = search needs
+
 enum-known-answer : tie.Need-enum-known-answer
 enum-known-answer c = search needs
 
@@ -35,6 +38,7 @@ list-spec =
     validate-requires
     enum-told
     print-image-requires
+    print-tracks-requires
     enum-known-answer
     print-refusal-requires
     returns
