@@ -59,6 +59,21 @@ pub const FOOTER_LEAST: usize = TABLE_END + FOOTER_SIZE;
 
 pub const STRING_SLOTS: u32 = 6;
 
+// Where the footer has its two times, its four version bytes and its mark.
+pub const CREATED_AT: usize = 24;
+
+pub const MODIFIED_AT: usize = 32;
+
+pub const SOFTWARE_AT: usize = 40;
+
+pub const HARDWARE_AT: usize = 41;
+
+pub const FIRMWARE_AT: usize = 42;
+
+pub const FORMAT_AT: usize = 43;
+
+pub const FOOTER_MARK_AT: usize = 44;
+
 fn wide(x: u8) -> usize
     ensures { λ r. ⌜ (r ≡ x) × (r < 256) ⌝ }
 {

@@ -4,7 +4,7 @@ use mathlib.Core.List.{List}
 use Rattle.refusals.specs.declared.Refusal.{Refusal}
 use Rattle.refusals.specs.Refusals.{refusal, refuseIf}
 use Rattle.scp_header.specs.HeaderTests.{badSize, badSign, badWidth, badRevolutions, badSpan, badHeads}
-use Rattle.scp_header.specs.Footer.{footerFault}
+use Rattle.scp_footer.specs.Footer.{footerFault}
 
 -- "The lowest number among 1 to 8 comes first."
 unfoldable pub headFault : List ℕ → Refusal

@@ -7,7 +7,7 @@ use lib.Dec.{eqb}
 use borrow.Author.Tests.{lt-ltb, le-ltb}
 use Rattle.octets.specs.Numbers.{byteAt}
 use Rattle.scp_fields.specs.Header.{tableEnd, dataEnd}
-use Rattle.scp_header.specs.Footer.{zeroWithin, badStringOf}
+use Rattle.scp_footer.specs.Footer.{zeroWithin, badStringOf}
 
 module _ (b : List ℕ) (o n : ℕ) where
   pub string-low : o < tableEnd → true ≡ badStringOf b o n

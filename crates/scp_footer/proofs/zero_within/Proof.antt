@@ -4,10 +4,10 @@ use Prim.Native.Nat.{_-_, _≤_}
 use borrow.Author.Needs.{needs}
 use borrow.Author.Tests.{eq-eqb, ne-eqb}
 use Rattle.refusals.specs.Search.{anyFrom}
-use Rattle.scp_header.specs.Footer.{zeroAt, zeroWithin}
+use Rattle.scp_footer.specs.Footer.{zeroAt, zeroWithin}
 use Rattle.refusals.proofs.Loops.{any-here, any-next, any-end}
-use Rattle.scp_header.proofs.zero_within.Statement.{statement}
-use Rattle.scp_header.proofs.zero_within.Tie as tie
+use Rattle.scp_footer.proofs.zero_within.Statement.{statement}
+use Rattle.scp_footer.proofs.zero_within.Tie as tie
 
 abbrev Inv-loop : tie.InvT-loop
 Inv-loop image start n end i₀ i = (i ≤ end) × (anyFrom (zeroAt image) i (end - i) ≡ zeroWithin image start n)

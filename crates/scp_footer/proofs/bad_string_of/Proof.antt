@@ -1,8 +1,8 @@
 -- Each return meets the tests before it.
 use borrow.Author.Needs.{needs}
-use Rattle.scp_header.proofs.Strings.{string-low, string-past, string-in}
-use Rattle.scp_header.proofs.bad_string_of.Statement.{statement}
-use Rattle.scp_header.proofs.bad_string_of.Tie as tie
+use Rattle.scp_footer.proofs.Strings.{string-low, string-past, string-in}
+use Rattle.scp_footer.proofs.bad_string_of.Statement.{statement}
+use Rattle.scp_footer.proofs.bad_string_of.Tie as tie
 
 returns : tie.Need-returns
 returns c = string-low _ _ _ (search needs)

@@ -4,10 +4,10 @@ use Prim.Native.Nat.{ℕ, _-_, _≤_}
 use borrow.Author.Needs.{needs}
 use Rattle.refusals.specs.Search.{firstFrom}
 use Rattle.scp_fields.specs.Footer.{stringSlots}
-use Rattle.scp_header.specs.Footer.{stringFaultAt, stringFault, stringsFault}
+use Rattle.scp_footer.specs.Footer.{stringFaultAt, stringFault, stringsFault}
 use Rattle.refusals.proofs.Loops.{found-here, found-next, found-none}
-use Rattle.scp_header.proofs.strings_fault.Statement.{statement}
-use Rattle.scp_header.proofs.strings_fault.Tie as tie
+use Rattle.scp_footer.proofs.strings_fault.Statement.{statement}
+use Rattle.scp_footer.proofs.strings_fault.Tie as tie
 
 abbrev Inv-loop : tie.InvT-loop
 Inv-loop image j₀ j = (j ≤ stringSlots) × (firstFrom (stringFault image) j (stringSlots - j) ≡ stringsFault image)

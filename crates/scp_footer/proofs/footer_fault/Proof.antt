@@ -1,10 +1,10 @@
 -- Each return meets the tests before it, in the definition's order.
 use mathlib.Core.Path.{sym, _∙_}
 use borrow.Author.Needs.{needs}
-use Rattle.scp_header.specs.Footer.{footerFault}
+use Rattle.scp_footer.specs.Footer.{footerFault}
 use Rattle.refusals.proofs.Chain.{refuse-here, refuse-next, turned-off, turned-on}
-use Rattle.scp_header.proofs.footer_fault.Statement.{statement}
-use Rattle.scp_header.proofs.footer_fault.Tie as tie
+use Rattle.scp_footer.proofs.footer_fault.Statement.{statement}
+use Rattle.scp_footer.proofs.footer_fault.Tie as tie
 
 bad-footer-requires : tie.Need-bad-footer-requires
 bad-footer-requires c κs = search needs

@@ -1,10 +1,10 @@
 -- Each return meets the tests before it, in the definition's order.
 use borrow.Author.Needs.{needs}
 use borrow.Author.Tests.{eq-eqb, ne-eqb}
-use Rattle.scp_header.specs.Footer.{stringFaultAt}
+use Rattle.scp_footer.specs.Footer.{stringFaultAt}
 use Rattle.refusals.proofs.Chain.{refuse-here, refuse-next}
-use Rattle.scp_header.proofs.string_fault_at.Statement.{statement}
-use Rattle.scp_header.proofs.string_fault_at.Tie as tie
+use Rattle.scp_footer.proofs.string_fault_at.Statement.{statement}
+use Rattle.scp_footer.proofs.string_fault_at.Tie as tie
 
 pass-requires : tie.Need-pass-requires
 pass-requires c κs = search needs
