@@ -1,4 +1,4 @@
--- The footer and its strings (01, Layout), and refusals 7 and 8.
+-- The footer and its strings (L-21 to L-24), and refusals 7 and 8.
 use Prim.Native.Nat.{ℕ, _+_, _-_, _*_}
 use mathlib.Core.List.{List}
 use mathlib.Core.Bool.{Bool, not, _&&_, _||_}
@@ -11,7 +11,7 @@ use Rattle.refusals.specs.Search.{anyFrom, firstFrom}
 use Rattle.scp_fields.specs.Header.{tableEnd, hasFooter, dataEnd}
 use Rattle.scp_fields.specs.Footer.{footerAt, stringSlots, stringEntry, footerLeast}
 
--- 7 Footer: "flagged, and length below 736, no "FPCS", or byte 0x2B below 0x16".
+-- R-7: FLAGS bit 5 is set, and the length is below 736, the last four bytes are not "FPCS", or byte 0x2B of the footer is below 0x16.
 abbrev pub badFooter : List ℕ → Bool
 badFooter b =
     hasFooter b && (ltb (length b) footerLeast
@@ -21,33 +21,36 @@ badFooter b =
 
 -- ---- strings
 
+-- L-23: the byte at offset i is zero.
 abbrev pub zeroAt : List ℕ → ℕ → Bool
 zeroAt b i = eqb (byteAt b i) 0
 
--- Some of the n bytes from i on is zero.
+-- L-23: some of the n bytes from i on is zero.
 abbrev pub zeroWithin : List ℕ → ℕ → ℕ → Bool
 zeroWithin b i n = anyFrom (zeroAt b) i n
 
--- A string at offset o of n bytes that is misplaced or malformed: "a 16-bit length, that many bytes of which none is zero, and a zero
--- byte", "at or above 688 and .. at or below E".
+-- L-18, L-23, L-24: a string at offset o of n bytes is misplaced or malformed: it starts below 688 or ends above E, one of its bytes is
+-- zero, or no zero byte follows them.
 unfoldable pub badStringOf : List ℕ → ℕ → ℕ → Bool
 badStringOf b o n =
     ltb o tableEnd || (ltb (dataEnd b) (o + 3 + n) || (zeroWithin b (o + 2) n || not (eqb (byteAt b (o + 2 + n)) 0)))
 
+-- R-8, L-23: the string at offset o, of the 16-bit length that stands there, is misplaced or malformed.
 abbrev pub badString : List ℕ → ℕ → Bool
 badString b o = badStringOf b o (le16At b o)
 
--- 8 String: "a present string is misplaced or malformed", of string j at offset o; its position is the string's number.
+-- R-8: string j at offset o refuses where it is present, and misplaced or malformed; the position is j.
 unfoldable pub stringFaultAt : List ℕ → ℕ → ℕ → Refusal
 stringFaultAt b o j = refuseIf (eqb o 0) none (refuseIf (badString b o) (refusal 8 j) none)
 
+-- R-8: the same, at the offset that the footer has for string j.
 abbrev pub stringFault : List ℕ → ℕ → Refusal
 stringFault b j = stringFaultAt b (stringEntry b j) j
 
--- The first faulty string.
+-- R-8, RO-2: the first faulty string.
 abbrev pub stringsFault : List ℕ → Refusal
 stringsFault b = firstFrom (stringFault b) 0 stringSlots
 
--- 7, then 8 where there is a footer.
+-- RO-3: 7, then 8 where there is a footer.
 unfoldable pub footerFault : List ℕ → Refusal
 footerFault b = refuseIf (badFooter b) (refusal 7 0) (refuseIf (not (hasFooter b)) none (stringsFault b))

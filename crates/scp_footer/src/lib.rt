@@ -6,7 +6,7 @@ ghost use Rattle.octets.specs.Numbers.{le16At};
 ghost use Rattle.scp_footer.specs.Footer.{badFooter, zeroWithin, badStringOf, stringFaultAt, stringsFault, footerFault};
 use refusals::Refusal;
 
-// The oldest format of a footer that is read: 1.6.
+// The oldest format of a footer that is read: 1.6 (R-7).
 const OLDEST_FORMAT: u8 = 22;
 
 // Whether the footer is flagged, and the image too short for it, or it is without its mark or too old.
