@@ -21,10 +21,10 @@ use refusals::Refusal;
 
 // ---- offsets
 
-// A place in the file.
+// A file offset (L-16).
 pub struct FileOffset(pub u64);
 
-// A distance from a track data header.
+// A distance from a track data header (L-16).
 pub struct HeaderOffset(pub u32);
 
 // Where a distance from the track data header at `header` lies in the file: the exact sum, or the largest number where 64 bits do not hold it.
