@@ -10,7 +10,7 @@ use Rattle.refusals.proofs.Finding.{Each}
 use Rattle.scp_fields.specs.Header.{revolutions}
 use Rattle.scp_tracks.specs.Tracks.{durationAt}
 use Rattle.scp_speed.specs.Durations.{longer, longestFrom, shorter, shortestFrom}
-use Rattle.scp_theorems.specs.Theorems.{Greatest, LeastNonzero, Longest, Shortest}
+use Rattle.scp_theorems.specs.Theorems.{Longest, Shortest}
 
 -- what holds of the first index and of the n after it
 each : (P : ℕ → Type 0) (i n : ℕ) → P i → Each P (i + 1) n → Each P i (suc n)

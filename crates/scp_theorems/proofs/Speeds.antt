@@ -1,12 +1,12 @@
 -- A number of 32 bits is an f64, so that a speed is the fraction itself rounded once; and rounding keeps the order of fractions, so that a
 -- longer duration is no faster.
-use Prim.Native.Nat.{ℕ, _+_, _*_, _^_, _<_, _≤_}
+use Prim.Native.Nat.{ℕ, _*_, _<_, _≤_}
 use mathlib.Core.Path.{_≡_, refl, sym, ap, subst, _∙_}
 use mathlib.Core.List.{List}
 use mathlib.Core.Bool.{Bool, true, false}
 use native.Mathlib.Nat.{mul-one, mul-comm, mul-assoc, mul-left-comm, mul-pos}
 use native.Mathlib.Omega.{arith}
-use lib.Dec.{T, ltb→lt, le→leb, leb}
+use lib.Dec.{T, ltb→lt, le→leb}
 use lib.IntN.{pos}
 use lib.Ieee.{Float, nan, inf, fin, Format, binary64, div, ofInt, round, inFloat, le}
 use lib.Ieee.Exact.{HasValue}
@@ -20,7 +20,7 @@ use Rattle.octets.proofs.Numbers.{le-bound}
 use Rattle.scp_fields.specs.Header.{revolutions}
 use Rattle.scp_tracks.specs.Tracks.{durationAt, revolutionAt}
 use Rattle.scp_speed.specs.Speeds.{rpmOf, longest, shortest}
-use Rattle.scp_theorems.specs.Theorems.{CastExact, CastsExact, RoundedOnce, Between, SlowestFastest}
+use Rattle.scp_theorems.specs.Theorems.{CastsExact, RoundedOnce, SlowestFastest}
 use Rattle.scp_theorems.proofs.Durations.{longest-is-greatest, shortest-is-least}
 
 -- ---- the casts

@@ -1,16 +1,51 @@
 -- What the definitions of validating, asking and speeds are proved to mean. The proofs stand in proofs/.
-use Prim.Native.Nat.{ℕ, _<_, _≤_}
+use Prim.Native.Nat.{ℕ, _+_, _*_, _<_, _≤_}
 use mathlib.Core.Path.{_≡_}
-use mathlib.Core.Logic.{_↔_}
-use mathlib.Core.List.{List}
+use mathlib.Core.Logic.{_↔_, _≢_}
+use mathlib.Core.List.{List, [], _∷_}
 use mathlib.Core.Bool.{true, false}
+use lib.ListN.{length}
 use lib.IntN.{pos}
 use lib.Ieee.{binary64, ofInt, toUnsigned, round, le}
 use lib.Ieee.Exact.{HasValue}
 use Rattle.octets.specs.Numbers.{Octets}
-use Rattle.scp_fields.specs.Header.{revolutions}
-use Rattle.scp_tracks.specs.Tracks.{durationAt}
+use Rattle.refusals.specs.Refusals.{none}
+use Rattle.flux.specs.Answers.{wordsRefused, refuses}
+use Rattle.scp_fields.specs.Header.{revolutions, readWrite, storedSum, trueSum}
+use Rattle.scp_tracks.specs.Tracks.{cylinderOf, headOf, durationAt}
+use Rattle.scp_open.specs.Validity.{Opens}
 use Rattle.scp_speed.specs.Speeds.{rpmOf, longest, shortest}
+use Rattle.scp.specs.Validating.{validateFault}
+use Rattle.scp.specs.Answers.{numbers, revolutionAnswer, fluxPart, revolutionReading}
+
+-- ---- validating (RO-5)
+
+-- The image obeys all that validating asks: it opens, and its checksum is the true sum if it is read-only, and 0 if it is read/write (RO-5).
+pub record Valid (b : List ℕ) : Type 0 where
+  pub opens : Opens b
+  pub readOnly : readWrite b ≡ false → storedSum b ≡ trueSum b
+  pub readWritten : readWrite b ≡ true → storedSum b ≡ 0
+
+-- Validating accepts exactly what obeys (RO-5).
+abbrev pub ValidatesExactly : Type 0
+ValidatesExactly = (b : List ℕ) → (validateFault b ≡ none) ↔ Valid b
+
+-- ---- tracks and the flux of their revolutions
+
+-- A track number is its cylinder and its head (L-14).
+pub record TrackNumber (t : ℕ) : Type 0 where
+  pub whole : 2 * cylinderOf t + headOf t ≡ t
+  pub side : headOf t < 2
+
+-- The flux handed out is the words that the revolution counts (T-8).
+abbrev pub FluxIsCounted : Type 0
+FluxIsCounted =
+    (b : List ℕ) (t k duration words place : ℕ) → revolutionAnswer b t k ≡ numbers (duration ∷ words ∷ place ∷ [])
+    → length (fluxPart b t k) ≡ 2 * words
+
+-- The intervals of a revolution are never refused with 17, at no position and however many places there are (RO-11).
+abbrev pub NeverWords : Type 0
+NeverWords = (b : List ℕ) (t k places position : ℕ) → revolutionReading b t k places ≢ refuses wordsRefused position
 
 -- ---- the longest and the shortest duration of a track (T-13)
 
