@@ -19,8 +19,8 @@ use Rattle.octets.specs.Numbers.{Octets}
 use Rattle.octets.proofs.Numbers.{le-bound}
 use Rattle.scp_fields.specs.Header.{revolutions}
 use Rattle.scp_tracks.specs.Tracks.{durationAt, revolutionAt}
-use Rattle.scp_speed.specs.Speeds.{rpmOf, longest, shortest}
-use Rattle.scp_theorems.specs.Theorems.{CastsExact, RoundedOnce, SlowestFastest}
+use Rattle.scp_speed.specs.Speeds.{rpmOf, speedOf, longest, shortest}
+use Rattle.scp_theorems.specs.Theorems.{CastsExact, RoundedOnce, SlowestFastest, ThreeHundred}
 use Rattle.scp_theorems.proofs.Durations.{longest-is-greatest, shortest-is-least}
 
 -- ---- the casts
@@ -99,3 +99,9 @@ slowest-fastest b e k octets h p =
       slowest = no-faster (longest b e) (durationAt b e k) (omega arith) long (longest-fits b e octets (omega arith));
       fastest = no-faster (durationAt b e k) (shortest b e) (omega arith) short (fits b e octets k);
     }
+
+-- ---- the worked example
+
+pub three-hundred : ThreeHundred
+unfolding speedOf div ofInt
+three-hundred = refl

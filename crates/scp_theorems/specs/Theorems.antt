@@ -14,7 +14,8 @@ use Rattle.flux.specs.Answers.{wordsRefused, refuses}
 use Rattle.scp_fields.specs.Header.{revolutions, readWrite, storedSum, trueSum}
 use Rattle.scp_tracks.specs.Tracks.{cylinderOf, headOf, durationAt}
 use Rattle.scp_open.specs.Validity.{Opens}
-use Rattle.scp_speed.specs.Speeds.{rpmOf, longest, shortest}
+use Rattle.scp_speed.specs.Speeds.{rpmOf, speedOf, longest, shortest}
+use Rattle.scp_speed.specs.declared.Speed.the-variants.{Rpm}
 use Rattle.scp.specs.Validating.{validateFault}
 use Rattle.scp.specs.Answers.{numbers, revolutionAnswer, fluxPart, revolutionReading}
 
@@ -92,3 +93,7 @@ pub record Between (b : List ℕ) (e k : ℕ) : Type 0 where
 abbrev pub SlowestFastest : Type 0
 SlowestFastest =
     (b : List ℕ) (e k : ℕ) → Octets b → k < revolutions b → (durationAt b e k ≡ 0 → ⊥) → Between b e k
+
+-- A duration of 8,000,000 ticks is exactly 300.0 rpm (X-9).
+abbrev pub ThreeHundred : Type 0
+ThreeHundred = speedOf 8_000_000 ≡ Rpm (ofInt binary64 (pos 300))

@@ -6,7 +6,7 @@ use borrow.Author.Needs.{needs}
 use borrow.Author.Tests.{le-ltb, lt-ltb, leb-true, leb-false}
 use Rattle.flux.specs.Coding.{wordsOf}
 use Rattle.flux.specs.Reading.{intervals}
-use Rattle.flux.proofs.AtWord.{good-size}
+use Rattle.flux.proofs.WordLaws.{good-size}
 use Rattle.flux.proofs.intervals.Statement.{statement}
 use Rattle.flux.proofs.intervals.Tie as tie
 

@@ -10,7 +10,7 @@ use borrow.Author.Tests.{lt-ltb, le-ltb}
 use Rattle.flux.specs.Coding.{bytesOf}
 use Rattle.flux.specs.Writing.{wordsFor, firstInexpressible}
 use Rattle.flux.specs.Answers.{refused, gives, timeRefused}
-use Rattle.flux.proofs.AtTime.{expressed, length-bytes, first-here, first-next, first-end, size-next, words-end}
+use Rattle.flux.proofs.TimeLaws.{expressed, length-bytes, first-here, first-next, first-end, size-next, words-end}
 use Rattle.flux.proofs.measure.Statement.{statement}
 use Rattle.flux.proofs.measure.Tie as tie
 

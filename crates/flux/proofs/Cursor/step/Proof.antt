@@ -8,7 +8,7 @@ use borrow.Author.Needs.{needs}
 use Rattle.flux.specs.Coding.{wordsOf, fluxLimit}
 use Rattle.flux.specs.Reading.{zeroTicks}
 use Rattle.flux.specs.Answers.{stepFrom}
-use Rattle.flux.proofs.AtWord.{good-size, step-zero, step-close, step-end}
+use Rattle.flux.proofs.WordLaws.{good-size, step-zero, step-close, step-end}
 use Rattle.flux.proofs.Cursor.step.Statement.{statement}
 use Rattle.flux.proofs.Cursor.step.Tie as tie
 
