@@ -80,10 +80,7 @@ impl Cursor {
         let from = self.word;
         let n = flux.len();
         if bad_flux_size(n) {
-            return Step::Refused(Refusal {
-                number: refusals::WORDS,
-                position: 0,
-            });
+            return Step::Refused(refusals::refuse(refusals::WORDS, 0));
         }
         let words = n / 2;
         let mut ticks: u64 = 0;
@@ -170,19 +167,13 @@ pub fn intervals(flux: &[u8], times: &mut [u64]) -> Filled
 {
     let n = flux.len();
     if bad_flux_size(n) {
-        return Filled::Refused(Refusal {
-            number: refusals::WORDS,
-            position: 0,
-        });
+        return Filled::Refused(refusals::refuse(refusals::WORDS, 0));
     }
     let places = times.len();
     if enough_places(flux, places) {
         fill(flux, times)
     } else {
-        Filled::Refused(Refusal {
-            number: refusals::PLACES,
-            position: 0,
-        })
+        Filled::Refused(refusals::refuse(refusals::PLACES, 0))
     }
 }
 
@@ -209,17 +200,11 @@ fn measure(times: &[u64], room: usize) -> Written
                 words += (t / ZERO_TICKS) as usize + 1;
             }
         } else {
-            return Written::Refused(Refusal {
-                number: refusals::TIME,
-                position: i as u64,
-            });
+            return Written::Refused(refusals::refuse(refusals::TIME, i as u64));
         }
     }
     if most < words {
-        return Written::Refused(Refusal {
-            number: refusals::PLACES,
-            position: 0,
-        });
+        return Written::Refused(refusals::refuse(refusals::PLACES, 0));
     }
     let bytes = 2 * words;
     Written::Bytes(bytes)

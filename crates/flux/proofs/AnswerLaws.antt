@@ -1,5 +1,5 @@
 -- What an answer says of the buffer that was to be filled.
-use mathlib.Core.Path.{_≡_, refl}
+use mathlib.Core.Path.{_≡_, refl, ap}
 use Prim.Native.Nat.{ℕ, _≤_}
 use native.Mathlib.Omega.{arith}
 use mathlib.Core.List.{List, [], _∷_}
@@ -7,9 +7,15 @@ use mathlib.Core.Bool.{Bool, true, false, cond}
 use lib.ListN.{length}
 use lib.Dec.{ltb}
 use borrow.Author.Tests.{ltb-false}
+use Rattle.refusals.specs.declared.Refusal.{Refusal}
+use Rattle.refusals.specs.Refusals.{refusal}
 use Rattle.flux.specs.Coding.{bytesOf}
 use Rattle.flux.specs.Writing.{firstInexpressible, wordsFor}
 use Rattle.flux.specs.Answers.{placesRefused, timeRefused, refused, gives, Filling, refuses, fills, answerOf, bufferAfter, inPlaces, writing}
+
+-- a refusal by its number and position
+pub refused-by : {r : Refusal} {n p : ℕ} → r ≡ refusal n p → refused (r .number) (r .position) ≡ refused n p
+refused-by e = ap (λ (x : Refusal). refused (x .number) (x .position)) e
 
 -- a refusal leaves the buffer
 pub refused-keeps : (k i : ℕ) (old : List ℕ) (f : Filling) → refused k i ≡ answerOf f → old ≡ bufferAfter old f

@@ -7,12 +7,12 @@ use mathlib.Core.Bool.{Bool, true, false, cond}
 use lib.ListN.{length, getD, replicate}
 use borrow.Author.Tests.{le-ltb, ne-eqb}
 use Rattle.octets.specs.Numbers.{Octets, be16}
 use Rattle.flux.specs.Coding.{wordsOf, bytesOf, Words}
 use Rattle.flux.specs.Reading.{zeroTicks, intervals, openTime}
 use Rattle.flux.specs.Writing.{tickLimit, expressible, wordsForTime, wordsFor, firstInexpressible}
-use Rattle.flux.specs.Theorems.{TimesReadBack, WordsWriteBack}
-use Rattle.flux.proofs.AtWord.{good-size}
-use Rattle.flux.proofs.AtTime.{Expressible, expressed, expressing, length-bytes}
+use Rattle.flux_theorems.specs.Theorems.{TimesReadBack, WordsWriteBack}
+use Rattle.flux.proofs.WordLaws.{good-size}
+use Rattle.flux.proofs.TimeLaws.{Expressible, expressed, expressing, length-bytes}
 
 -- ---- words and bytes
 

@@ -6,12 +6,12 @@ use native.Mathlib.Omega.{arith}
 use mathlib.Core.List.{List, [], _∷_, _++_, append-nil}
 use lib.ListN.{replicate}
 use borrow.Author.Tests.{le-leb, lt-leb}
 use Rattle.flux.specs.Coding.{Words}
 use Rattle.flux.specs.Reading.{zeroTicks, intervals, openTime}
 use Rattle.flux.specs.Writing.{tickLimit, wordsForTime}
-use Rattle.flux.specs.Theorems.{ReadsAs, RefusesJustTheInexpressible}
-use Rattle.flux.proofs.AtTime.{Expressible, expressed, expressing}
-use Rattle.flux.proofs.RoundTrips.{time-closes, time-opens-nothing}
+use Rattle.flux_theorems.specs.Theorems.{ReadsAs, RefusesJustTheInexpressible}
+use Rattle.flux.proofs.TimeLaws.{Expressible, expressed, expressing}
+use Rattle.flux_theorems.proofs.RoundTrips.{time-closes, time-opens-nothing}
 
 -- the first interval of words is no multiple
 remainder : (k t : ℕ) (ws ts : List ℕ) → Words ws → intervals (zeroTicks * k) ws ≡ t ∷ ts → 0 < t % zeroTicks

@@ -7,10 +7,10 @@ use mathlib.Core.List.{List, [], _∷_}
 use mathlib.Core.Bool.{false}
 use lib.ListN.{length, drop, drop-of-length-le}
 use lib.Seq.{drop-drop}
 use Rattle.flux.specs.Coding.{wordsOf, badFluxSize}
 use Rattle.flux.specs.Reading.{zeroTicks, intervals, openTime}
 use Rattle.flux.specs.Answers.{gives, stepFrom, stepAt}
-use Rattle.flux.specs.Theorems.{Steps, atEnd, step, StepsGiveIntervals}
+use Rattle.flux_theorems.specs.Theorems.{Steps, atEnd, step, StepsGiveIntervals}
 
 -- What a step finds at word n of all words, where the words ws are left and p ticks are pending.
 data Found (all : List ℕ) (from p n : ℕ) (ws : List ℕ) : Type 0 where
