@@ -18,7 +18,7 @@ use Rattle.flux.specs.Reading.{intervals, openTime}
 use Rattle.flux.specs.Answers.{placesRefused, wordsRefused, Filling, refuses, fills, inPlaces, reading}
 use Rattle.scp_fields.specs.Header.{trackSlots, trackEntry}
 use Rattle.scp_fields.specs.Footer.{stringSlots}
-use Rattle.scp_header.specs.Footer.{stringFaultAt, stringFault, footerFault}
+use Rattle.scp_footer.specs.Footer.{stringFaultAt, stringFault, footerFault}
 use Rattle.scp_header.specs.HeaderFault.{headFault}
 use Rattle.scp_tracks.specs.Tracks.{durationAt, countAt, fluxAt, trackFaultAt, trackFault, tracksFault}
 use Rattle.scp_tracks.specs.declared.RevolutionData.{RevolutionData}
