@@ -55,7 +55,7 @@ fn wide(x: u8) -> u16
 }
 
 // Whether flux of n bytes is refused.
-fn bad_flux_size(n: usize) -> bool
+pub fn bad_flux_size(n: usize) -> bool
     ensures { λ r. ⌜ r ≡ badFluxSize n ⌝ }
 {
     (n % 2 == 1) | (FLUX_LIMIT < n)

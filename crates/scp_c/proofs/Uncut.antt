@@ -20,7 +20,7 @@ use Rattle.scp_lookup.specs.Questions.{trackThen, trackQuestion, revolutionThen
 use Rattle.scp.specs.Validating.{validateFault}
 use Rattle.scp.specs.Answers as answers
 use Rattle.scp.specs.Answers.{Answer, numbers, bytes, unless, headerAnswer, footerValues, footerAnswer, trackAnswer, revolutionAnswer, fluxPart, speedAnswer, trackSpeedValues, trackSpeedAnswer}
-use Rattle.scp_rewrite.specs.Rewriting.{wordsThenShared, rewriteFault}
+use Rattle.scp_sharing.specs.RewriteFault.{wordsThenShared, rewriteFault}
 use Rattle.sequence.specs.Book.{validate, header, footer, track, revolution, flux, speed, trackSpeed, rewrite, answer}
 use Rattle.scp_c.specs.Theorems.{Whole, Uncut}
 use Rattle.scp_c.proofs.Packing.{exact}

@@ -15,11 +15,11 @@ use Rattle.octets.specs.Sums.{byteSum}
 use Rattle.octets.proofs.Numbers.{Apart, byte-apart, byte-inside, drop-sets, le-same, le-apart, le-length, le-read-same, le-octets, sets-octets}
 use Rattle.scp_fields.specs.Header.{readWrite, storedSum, trueSum, trackEntry}
 use Rattle.scp_tracks.specs.Tracks.{revolutionAt, durationAt, countAt, fluxAt}
-use Rattle.scp_rewrite.specs.Extents.{extent, In}
+use Rattle.scp_sharing.specs.Extents.{extent, In}
 use Rattle.scp_rewrite.specs.Rewriting.{patched, moved, summed, rewritten}
 use Rattle.scp_rewrite.specs.Steps.{Patchable}
-use Rattle.scp_rewrite.specs.Sharing.{InNumbers, front, byItself}
-use Rattle.scp_rewrite.proofs.Accepted.{Accepted, unset}
+use Rattle.scp_sharing.specs.Sharing.{InNumbers, front, byItself}
+use Rattle.scp_sharing.proofs.Accepted.{Accepted, unset}
 
 -- ---- parts and stores
 
@@ -149,7 +149,7 @@ module _ (b : List ℕ) (t k d : ℕ) (ws : List ℕ) (a : Accepted b t k ws) wh
   lies =
       let s = a .asks in
       let h = s .opens .tracks t (s .present .0) (s .present .1) in
-      let f = h .flux k (s .turn) in
+      let f = h .flux k (s .below) in
       record { most = s .opens .most; low = omega arith; high = omega arith; fluxLow = omega arith; fluxHigh = omega arith }
 
   pub rewritten-size : length q ≡ length b

@@ -2,7 +2,7 @@
 use Prim.Native.Nat.{ℕ}
 use mathlib.Core.List.{List, []}
 use Rattle.scp.specs.Answers.{Answer, refused, numbers, unless}
-use Rattle.scp_rewrite.specs.Rewriting.{rewriteFault}
+use Rattle.scp_sharing.specs.RewriteFault.{rewriteFault}
 use Rattle.scp_rewrite.specs.declared.Rewritten.{Rewritten}
 use Rattle.scp_rewrite.specs.declared.Rewritten.the-variants as rewritten
 

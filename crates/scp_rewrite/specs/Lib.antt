@@ -1,6 +1,3 @@
-pub mod Extents
-pub mod Claims
 pub mod Rewriting
 pub mod Answering
-pub mod Sharing
 pub mod Steps

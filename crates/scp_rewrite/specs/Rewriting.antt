@@ -1,32 +1,14 @@
--- Rewriting one revolution (01, Rewriting): what refuses it, and the bytes that it leaves.
-use Prim.Native.Nat.{ℕ, _+_, _-_, _*_, _/_, _%_}
+-- Rewriting one revolution (01, Rewriting): the bytes that it leaves.
+use Prim.Native.Nat.{ℕ, _+_, _-_, _/_, _%_}
 use mathlib.Core.List.{List}
-use mathlib.Core.Bool.{Bool, _||_, cond}
+use mathlib.Core.Bool.{cond}
 use lib.ListN.{length}
 use lib.Seq.{sets}
-use lib.Dec.{ltb}
-use Rattle.refusals.specs.declared.Refusal.{Refusal}
-use Rattle.flux.specs.Coding.{badFluxSize}
 use Rattle.octets.specs.Numbers.{leBytes}
-use Rattle.refusals.specs.Refusals.{none, refusal, passes, refuseIf}
+use Rattle.refusals.specs.Refusals.{passes}
 use Rattle.scp_fields.specs.Header.{readWrite, storedSum, trueSum, trackEntry}
-use Rattle.scp_tracks.specs.Tracks.{revolutionAt, countAt, fluxAt}
-use Rattle.scp_lookup.specs.Questions.{revolutionThen}
-use Rattle.scp_rewrite.specs.Claims.{standAt, shared}
-
--- 17 Words, of n bytes for a revolution of `words` words: "flux given has an odd number of bytes or above 268,435,456, or new flux more
--- words than the turn has".
-abbrev pub badWords : ℕ → ℕ → Bool
-badWords words n = badFluxSize n || ltb (2 * words) n
-
--- 17, then 18, of the revolution of the track header at e.
-unfoldable pub wordsThenShared : List ℕ → ℕ → ℕ → ℕ → ℕ → Refusal
-wordsThenShared b e t k n =
-    refuseIf (badWords (countAt b e k) n) (refusal 17 0) (refuseIf (shared b (standAt b e k) t k) (refusal 18 0) none)
-
--- What refuses the rewrite: 1 to 11, 13, 14, 17, 18.
-unfoldable pub rewriteFault : List ℕ → ℕ → ℕ → List ℕ → Refusal
-rewriteFault b t k ws = revolutionThen b t k (wordsThenShared b (trackEntry b t) t k (length ws))
+use Rattle.scp_tracks.specs.Tracks.{revolutionAt, fluxAt}
+use Rattle.scp_sharing.specs.RewriteFault.{rewriteFault}
 
 -- "it sets the turn's duration, its count to the number n of new words, and the first 2n bytes at its flux place to those words".
 unfoldable pub patched : List ℕ → ℕ → ℕ → ℕ → List ℕ → List ℕ

@@ -9,10 +9,11 @@ use Rattle.refusals.specs.Refusals.{passes}
 use Rattle.scp_fields.specs.Header.{trackSlots, revolutions, readWrite, trackEntry}
 use Rattle.scp_open.specs.Validity.{Opens}
 use Rattle.scp_open.proofs.Opens.{opens-exactly}
-use Rattle.scp_rewrite.specs.Extents.{extent, In}
-use Rattle.scp_rewrite.specs.Rewriting.{rewriteFault, rewritten, afterRewrite}
-use Rattle.scp_rewrite.specs.Sharing.{Present}
-use Rattle.scp_rewrite.proofs.Accepted.{Accepted, accepted, shared-refused}
+use Rattle.scp_sharing.specs.Extents.{extent, In}
+use Rattle.scp_sharing.specs.RewriteFault.{rewriteFault}
+use Rattle.scp_rewrite.specs.Rewriting.{rewritten, afterRewrite}
+use Rattle.scp_sharing.specs.Sharing.{Present}
+use Rattle.scp_sharing.proofs.Accepted.{Accepted, accepted, shared-refused}
 use Rattle.scp_rewrite.proofs.Frame.{octets-kept, rewritten-size, rewritten-duration, rewritten-count, rewritten-words, rewritten-rest, sum-moved, sum-stays}
 use Rattle.sequence.specs.Book.{Call, validate, header, footer, track, revolution, flux, speed, trackSpeed, rewrite, after, finalBytes, Reading, reading, put, noted, lastPut}
 use Rattle.sequence.specs.Claim.{Fits, AllFit, Rewrites, distance, Does, EachDoes, EverySequence}

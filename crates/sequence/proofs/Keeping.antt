@@ -17,10 +17,10 @@ use Rattle.scp_fields.specs.Header.{trackSlots, footerSize, revolutions, readWr
 use Rattle.scp_fields.specs.Footer.{footerAt, stringSlots, stringEntry}
 use Rattle.scp_tracks.specs.Tracks.{revolutionAt, durationAt, countAt, fluxAt}
 use Rattle.scp_open.specs.Validity.{StringHolds, FooterHolds, TrackHolds, Opens}
-use Rattle.scp_rewrite.specs.Extents.{extent, In}
-use Rattle.scp_rewrite.specs.Sharing.{Present, InNumbers, InHeader, Claimed, front, ownHeader, otherHeader, otherFlux, footer, string}
-use Rattle.scp_rewrite.proofs.SharedBytes.{other-pair}
-use Rattle.scp_rewrite.proofs.Accepted.{Accepted, unset}
+use Rattle.scp_sharing.specs.Extents.{extent, In}
+use Rattle.scp_sharing.specs.Sharing.{Present, InNumbers, InHeader, Claimed, front, ownHeader, otherHeader, otherFlux, footer, string}
+use Rattle.scp_sharing.proofs.SharedBytes.{other-pair}
+use Rattle.scp_sharing.proofs.Accepted.{Accepted, unset}
 use Rattle.scp_rewrite.proofs.Frame.{part-same}
 use Rattle.sequence.specs.Book.{reading, put}
 use Rattle.sequence.specs.Claim.{Rewrites}
@@ -202,7 +202,7 @@ module _ (b q : List ℕ) (t k d : ℕ) (ws : List ℕ) (a : Accepted b t k ws) 
   reading-own =
       let p = a .asks .present in
       let two : 2 * (length ws / 2) ≡ length ws = let v = a .even in omega arith in
-      cc (same-entry t (p .0), f .duration, f .count, same-place t k p (a .asks .turn), two, f .words)
+      cc (same-entry t (p .0), f .duration, f .count, same-place t k p (a .asks .below), two, f .words)
 
   pub reading-kept : (u j : ℕ) → Present b u → j < revolutions b
       → reading q u j ≡ cond (eqb t u && eqb k j) (put (reading b u j) d ws) (reading b u j)

@@ -10,7 +10,8 @@ use Rattle.scp_fields.specs.Header.{trackEntry}
 use Rattle.scp_tracks.specs.Tracks.{durationAt, countAt, fluxAt}
 use Rattle.scp_lookup.specs.Questions.{revolutionQuestion}
 use Rattle.scp.specs.Answers.{Answer, numbers, bytes, unless, validateAnswer, headerAnswer, footerAnswer, trackAnswer, revolutionAnswer, fluxPart, speedAnswer, trackSpeedAnswer}
-use Rattle.scp_rewrite.specs.Rewriting.{rewriteFault, afterRewrite}
+use Rattle.scp_sharing.specs.RewriteFault.{rewriteFault}
+use Rattle.scp_rewrite.specs.Rewriting.{afterRewrite}
 
 -- "Its calls are rewrites, judgings and questions (for header, footer, track, turn, its flux, speed)".
 pub data Call : Type 0 where

@@ -11,9 +11,9 @@ use Rattle.scp_fields.specs.Header.{revolutions, readWrite, storedSum, trueSum,
 use Rattle.scp_tracks.specs.Tracks.{durationAt, countAt, fluxAt}
 use Rattle.scp_open.specs.Opening.{openFault}
 use Rattle.scp_lookup.specs.Questions.{revolutionQuestion}
-use Rattle.scp_rewrite.specs.Extents.{extent, In}
-use Rattle.scp_rewrite.specs.Rewriting.{badWords, rewriteFault}
-use Rattle.scp_rewrite.specs.Sharing.{Present, InNumbers, ClaimedTwice}
+use Rattle.scp_sharing.specs.Extents.{extent, In}
+use Rattle.scp_sharing.specs.RewriteFault.{badWords, rewriteFault}
+use Rattle.scp_sharing.specs.Sharing.{Present, InNumbers, ClaimedTwice}
 use Rattle.sequence.specs.Book.{Call, validate, header, footer, track, revolution, flux, speed, trackSpeed, rewrite, after, finalBytes, reading, lastPut}
 
 -- A rewrite's duration is a 32-bit number, and its words are bytes.

@@ -1,0 +1,4 @@
+pub mod Extents
+pub mod Claims
+pub mod RewriteFault
+pub mod Sharing

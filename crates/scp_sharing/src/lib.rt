@@ -1,0 +1,261 @@
+// What refuses a rewrite of one revolution of a SuperCard Pro image: the question of the revolution, the words, and the sharing test. It
+// opens the image anew, takes nobody's word, and walks once over the extents that others claim.
+ghost use mathlib.Core.Path.{_≡_};
+ghost use Prim.Native.Nat.{_+_, _<_, _≤_};
+ghost use lib.Dec.{ltb};
+ghost use Rattle.scp_fields.specs.Header.{revolutions, trackEntry};
+ghost use Rattle.scp_tracks.specs.Tracks.{revolutionAt, countAt};
+ghost use Rattle.scp_sharing.specs.Extents.{between, meets, anyOf};
+ghost use Rattle.scp_sharing.specs.Claims.{fluxExtent, standAt, hit, headerClaims, fluxClaim, fluxClaims, trackClaim, trackClaims, stringClaim, stringClaims, footerClaims, claims, shared};
+ghost use Rattle.scp_sharing.specs.RewriteFault.{badWords, wordsThenShared, rewriteFault};
+use refusals::Refusal;
+use scp_lookup::RevolutionAnswer;
+
+// An extent of the file (01: stretch).
+pub struct Extent {
+    pub start: usize,
+    pub size: usize,
+}
+
+// What a rewrite stands on: the bytes of duration and count, and the flux.
+pub struct Stand {
+    pub numbers: Extent,
+    pub flux: Extent,
+}
+
+// The bytes of duration and count.
+const NUMBERS_SIZE: usize = 8;
+
+// ---- extents
+
+// Whether an offset lies before the end of an extent.
+fn before_end(at: usize, x: Extent) -> bool
+    ensures { λ r. ⌜ r ≡ ltb at (x .start + x .size) ⌝ }
+{
+    if at < x.start {
+        return true;
+    }
+    at - x.start < x.size
+}
+
+// Whether two extents have a byte in common.
+fn meet(x: Extent, y: Extent) -> bool
+    ensures { λ r. ⌜ r ≡ meets x y ⌝ }
+{
+    (before_end(x.start, y) & before_end(y.start, x)) & ((0 < x.size) & (0 < y.size))
+}
+
+// Whether an extent has a byte that the rewrite stands on.
+fn hits(s: Stand, x: Extent) -> bool
+    ensures { λ r. ⌜ r ≡ hit s x ⌝ }
+{
+    meet(s.numbers, x) | meet(s.flux, x)
+}
+
+// The bytes from one offset up to another.
+fn bytes_between(from: usize, to: usize) -> Extent
+    requires { ⌜ from ≤ to ⌝ }
+    ensures { λ r. ⌜ r ≡ between from to ⌝ }
+{
+    Extent {
+        start: from,
+        size: to - from,
+    }
+}
+
+// ---- track headers and flux
+
+// Where the record of revolution k of the track header at e stands.
+fn record_at(e: u32, k: u32) -> usize
+    ensures { λ r. ⌜ (r ≡ revolutionAt e k) × (r < 68_719_476_736) ⌝ }
+{
+    e as usize + scp_tracks::record_offset(k)
+}
+
+// The flux of revolution j of the track header at e.
+fn flux_extent(image: &[u8], e: u32, j: u32) -> Extent
+    ensures { λ r. ⌜ r ≡ fluxExtent (now (image .entry)) e j ⌝ }
+{
+    let data = scp_tracks::revolution_data(image, e, j);
+    Extent {
+        start: data.place.0 as usize,
+        size: 2 * (data.words as usize),
+    }
+}
+
+// What a rewrite of revolution k of the track header at e stands on.
+fn stand_of(image: &[u8], e: u32, k: u32) -> Stand
+    ensures { λ r. ⌜ r ≡ standAt (now (image .entry)) e k ⌝ }
+{
+    let numbers = Extent {
+        start: record_at(e, k),
+        size: NUMBERS_SIZE,
+    };
+    let flux = flux_extent(image, e, k);
+    Stand { numbers, flux }
+}
+
+// ---- the walk over the claims: whether one is hit
+
+// The header of track u, at e: the rewrite's own but for the 8 bytes, another's whole.
+fn header_hit(image: &[u8], s: Stand, t: u32, k: u32, u: u32, e: u32) -> bool
+    requires { ⌜ k < revolutions (now image) ⌝ }
+    ensures { λ r. ⌜ r ≡ anyOf (hit s) (headerClaims (now (image .entry)) t k u e) ⌝ }
+{
+    let start = e as usize;
+    let size = scp_tracks::header_size(image);
+    if u == t {
+        let at = record_at(e, k);
+        let before = bytes_between(start, at);
+        let behind = bytes_between(at + NUMBERS_SIZE, start + size);
+        return hits(s, before) | hits(s, behind);
+    }
+    hits(s, Extent { start, size })
+}
+
+// The flux of revolution j of track u, whose header is at e; never the rewrite's own.
+fn flux_hit(image: &[u8], s: Stand, t: u32, k: u32, u: u32, e: u32, j: u32) -> bool
+    ensures { λ r. ⌜ r ≡ anyOf (hit s) (fluxClaim (now (image .entry)) t k u e j) ⌝ }
+{
+    if (u == t) & (j == k) {
+        return false;
+    }
+    hits(s, flux_extent(image, e, j))
+}
+
+// The flux of the revolutions of track u, whose header is at e.
+fn fluxes_hit(image: &[u8], s: Stand, t: u32, k: u32, u: u32, e: u32) -> bool
+    ensures { λ r. ⌜ r ≡ anyOf (hit s) (fluxClaims (now (image .entry)) t k u e) ⌝ }
+{
+    let n = scp_fields::revolutions(image) as u32;
+    let mut j: u32 = 0;
+    while j < n {
+        if flux_hit(image, s, t, k, u, e, j) {
+            return true;
+        }
+        j += 1;
+    }
+    false
+}
+
+// Track u, by its entry of the table.
+fn track_hit(image: &[u8], s: Stand, t: u32, k: u32, u: u32, entry: u32) -> bool
+    requires { ⌜ k < revolutions (now image) ⌝ }
+    ensures { λ r. ⌜ r ≡ anyOf (hit s) (trackClaim (now (image .entry)) t k u entry) ⌝ }
+{
+    if entry == 0 {
+        return false;
+    }
+    header_hit(image, s, t, k, u, entry) | fluxes_hit(image, s, t, k, u, entry)
+}
+
+// The tracks of the table.
+fn tracks_hit(image: &[u8], s: Stand, t: u32, k: u32) -> bool
+    requires { ⌜ k < revolutions (now image) ⌝ }
+    ensures { λ r. ⌜ r ≡ anyOf (hit s) (trackClaims (now (image .entry)) t k) ⌝ }
+{
+    let mut u: u32 = 0;
+    while (u as usize) < scp_fields::TRACK_SLOTS {
+        if track_hit(image, s, t, k, u, scp_fields::track_entry(image, u)) {
+            return true;
+        }
+        u += 1;
+    }
+    false
+}
+
+// The string at offset o, with its length and its zero byte.
+fn string_hit(image: &[u8], s: Stand, o: u32) -> bool
+    ensures { λ r. ⌜ r ≡ anyOf (hit s) (stringClaim (now (image .entry)) o) ⌝ }
+{
+    if o == 0 {
+        return false;
+    }
+    let start = o as usize;
+    let size = 3 + octets::le16(image, start) as usize;
+    hits(s, Extent { start, size })
+}
+
+// The strings of the footer.
+fn strings_hit(image: &[u8], s: Stand) -> bool
+    ensures { λ r. ⌜ r ≡ anyOf (hit s) (stringClaims (now (image .entry))) ⌝ }
+{
+    let mut j: u32 = 0;
+    while j < scp_fields::STRING_SLOTS {
+        if string_hit(image, s, scp_fields::string_entry(image, j)) {
+            return true;
+        }
+        j += 1;
+    }
+    false
+}
+
+// The footer and its strings.
+fn footer_hit(image: &[u8], s: Stand) -> bool
+    ensures { λ r. ⌜ r ≡ anyOf (hit s) (footerClaims (now (image .entry))) ⌝ }
+{
+    if scp_fields::has_footer(image) {
+        let footer = Extent {
+            start: scp_fields::footer_at(image),
+            size: scp_fields::FOOTER_SIZE,
+        };
+        return hits(s, footer) | strings_hit(image, s);
+    }
+    false
+}
+
+// All claims.
+fn claims_hit(image: &[u8], s: Stand, t: u32, k: u32) -> bool
+    requires { ⌜ k < revolutions (now image) ⌝ }
+    ensures { λ r. ⌜ r ≡ anyOf (hit s) (claims (now (image .entry)) t k) ⌝ }
+{
+    let front = Extent {
+        start: 0,
+        size: scp_fields::TABLE_END,
+    };
+    hits(s, front) | (tracks_hit(image, s, t, k) | footer_hit(image, s))
+}
+
+// ---- what refuses a rewrite
+
+// Whether a byte that the rewrite of revolution k of track t stands on is claimed twice.
+fn is_shared(image: &[u8], s: Stand, t: u32, k: u32) -> bool
+    requires { ⌜ k < revolutions (now image) ⌝ }
+    ensures { λ r. ⌜ r ≡ shared (now (image .entry)) s t k ⌝ }
+{
+    meet(s.numbers, s.flux) | claims_hit(image, s, t, k)
+}
+
+// Whether n bytes of new flux are no words, or more than the revolution's.
+fn bad_words(words: u32, n: usize) -> bool
+    ensures { λ r. ⌜ r ≡ badWords words n ⌝ }
+{
+    flux::bad_flux_size(n) | (2 * (words as usize) < n)
+}
+
+// What refuses n bytes of new flux for revolution k of track t, which has so many words: 17, then 18.
+fn words_fault(image: &[u8], t: u32, k: u32, words: u32, n: usize) -> Refusal
+    requires { ⌜ (k < revolutions (now image)) × (words ≡ countAt (now image) (trackEntry (now image) t) k) ⌝ }
+    ensures { λ r. ⌜ r ≡ wordsThenShared (now (image .entry)) (trackEntry (now (image .entry)) t) t k n ⌝ }
+{
+    if bad_words(words, n) {
+        return refusals::refuse(refusals::WORDS, 0);
+    }
+    let s = stand_of(image, scp_fields::track_entry(image, t), k);
+    if is_shared(image, s, t, k) {
+        return refusals::refuse(refusals::SHARED, 0);
+    }
+    refusals::pass()
+}
+
+// What refuses the rewrite: the first of refusals 1 to 11, 13, 14, 17 and 18, or number 0.
+pub fn rewrite_fault(image: &[u8], track: u32, revolution: u32, words: &[u8]) -> Refusal
+    ensures { λ r. ⌜ r ≡ rewriteFault (now (image .entry)) track revolution (now (words .entry)) ⌝ }
+{
+    match scp_lookup::find_revolution(image, track, revolution) {
+        RevolutionAnswer::Found(data) => {
+            words_fault(image, track, revolution, data.words, words.len())
+        }
+        RevolutionAnswer::Refused(refusal) => refusal,
+    }
+}
