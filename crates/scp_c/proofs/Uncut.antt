@@ -18,9 +18,9 @@ use Rattle.scp_open.specs.Opening.{openFault}
 use Rattle.scp.specs.Durations.{longestFrom}
 use Rattle.scp.specs.Questions.{validateFault, trackThen, trackQuestion, revolutionThen, revolutionQuestion}
 use Rattle.scp.specs.Answers as answers
-use Rattle.scp.specs.Answers.{Answer, numbers, bytes, unless, headerAnswer, footerValues, footerAnswer, trackAnswer, revolutionAnswer, fluxPart, speedAnswer, trackSpeedValues, trackSpeedAnswer}
+use Rattle.scp.specs.Answers.{Answer, numbers, unless, headerAnswer, footerValues, footerAnswer, trackAnswer, revolutionAnswer, speedAnswer, trackSpeedValues, trackSpeedAnswer}
 use Rattle.scp_rewrite.specs.Rewriting.{wordsThenShared, rewriteFault}
-use Rattle.sequence.specs.Book.{validate, header, footer, track, revolution, flux, speed, trackSpeed, rewrite, answer}
+use Rattle.scp_book.specs.Book.{Question, validate, header, footer, track, revolution, flux, speed, trackSpeed, ask, rewrite, asked, answer}
 use Rattle.scp_c.specs.Theorems.{Whole, Uncut}
 use Rattle.scp_c.proofs.Packing.{exact}
 
@@ -124,18 +124,22 @@ whole-either false a c h k = k
 whole-unless : (f : Refusal) (a : Answer) → Small f → Whole a → Whole (unless f a)
 whole-unless f a h k = whole-either (passes f) a _ k (exact (f .number) (f .position) (h .0) (h .1))
 
-pub uncut : Uncut
-unfolding answer headerAnswer footerAnswer footerValues trackAnswer revolutionAnswer speedAnswer trackSpeedAnswer trackSpeedValues
-uncut b validate = whole-unless (validateFault b) _ (validate-small b) tt
-uncut b header = whole-unless (openFault b) _ (open-small b) tt
-uncut b footer = whole-unless (openFault b) _ (open-small b) (whole-either (hasFooter b) (footerValues b) answers.none tt tt)
-uncut b (track t) = whole-unless (trackQuestion b t) _ (asked-small b t none small-none) tt
-uncut b (revolution t k) = whole-unless (revolutionQuestion b t k) _ (revolution-small b t k none small-none) tt
-uncut b (flux t k) = whole-unless (revolutionQuestion b t k) (bytes (fluxPart b t k)) (revolution-small b t k none small-none) tt
-uncut b (speed t k) =
+question-whole : (b : List ℕ) (q : Question) → Whole (asked b q)
+unfolding asked headerAnswer footerAnswer footerValues trackAnswer revolutionAnswer speedAnswer trackSpeedAnswer trackSpeedValues
+question-whole b validate = whole-unless (validateFault b) _ (validate-small b) tt
+question-whole b header = whole-unless (openFault b) _ (open-small b) tt
+question-whole b footer = whole-unless (openFault b) _ (open-small b) (whole-either (hasFooter b) (footerValues b) answers.none tt tt)
+question-whole b (track t) = whole-unless (trackQuestion b t) _ (asked-small b t none small-none) tt
+question-whole b (revolution t k) = whole-unless (revolutionQuestion b t k) _ (revolution-small b t k none small-none) tt
+question-whole b (flux t k) = whole-unless (revolutionQuestion b t k) _ (revolution-small b t k none small-none) tt
+question-whole b (speed t k) =
     whole-unless (revolutionQuestion b t k) _ (revolution-small b t k none small-none)
     (whole-either (eqb (durationAt b (trackEntry b t) k) 0) answers.none _ tt tt)
-uncut b (trackSpeed t) =
+question-whole b (trackSpeed t) =
     whole-unless (trackQuestion b t) _ (asked-small b t none small-none)
     (whole-either (eqb (longestFrom (durationAt b (trackEntry b t)) 0 (revolutions b)) 0) answers.none _ tt tt)
+
+pub uncut : Uncut
+unfolding answer
+uncut b (ask q) = question-whole b q
 uncut b (rewrite t k d ws) = whole-unless (rewriteFault b t k ws) (numbers []) (rewrite-small b t k ws) tt

@@ -42,14 +42,14 @@ outAfter old (gives vs) = vs ++ drop (length vs) old
 -- ---- the values of an answer
 
 -- As numbers. A footer: 1, six offsets, two times (two's complement), four version bytes, and 13 zeros where there is none. Bytes: as
--- they are. Speeds have no numbers here; they go by `floatsOf`.
+-- they are, without where they start. Speeds have no numbers here; they go by `floatsOf`.
 abbrev pub numbersOf : Answer → Given ℕ
 numbersOf (refused number position) = refuses number position
 numbersOf none = gives (replicate 13 0)
 numbersOf (numbers vs) = gives vs
 numbersOf (footer offsets times versions) = gives (1 ∷ (offsets ++ (map unsigned64 times ++ versions)))
 numbersOf (speeds xs) = gives []
-numbersOf (bytes b) = gives b
+numbersOf (bytes start b) = gives b
 
 -- A whole number as an f64.
 abbrev pub whole : ℕ → Float
@@ -62,7 +62,7 @@ floatsOf n none = gives (replicate n (whole 0))
 floatsOf n (speeds xs) = gives (whole 1 ∷ xs)
 floatsOf n (numbers vs) = gives []
 floatsOf n (footer offsets times versions) = gives []
-floatsOf n (bytes b) = gives []
+floatsOf n (bytes start b) = gives []
 
 -- ---- flux, which stands in no image
 

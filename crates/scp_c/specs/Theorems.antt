@@ -3,7 +3,7 @@ use Prim.Native.Nat.{ℕ, _+_, _*_, _<_}
 use mathlib.Core.Path.{_≡_}
 use mathlib.Core.List.{List}
 use Rattle.scp.specs.Answers.{Answer, refused, none, numbers, footer, speeds, bytes}
-use Rattle.sequence.specs.Book.{Call, answer}
+use Rattle.scp_book.specs.Book.{Call, answer}
 use Rattle.scp_c.specs.Boundary.{packed}
 
 -- "the refusal's number + 256 x its position": a number below 256 and a position below 2^56 are packed as they are.
@@ -18,7 +18,7 @@ Whole none = Unit {0}
 Whole (numbers vs) = Unit {0}
 Whole (footer offsets times versions) = Unit {0}
 Whole (speeds xs) = Unit {0}
-Whole (bytes b) = Unit {0}
+Whole (bytes start b) = Unit {0}
 
 -- No refusal of a call on an image is cut.
 abbrev pub Uncut : Type 0

@@ -6,11 +6,9 @@ ghost use mathlib.Core.Bool.{cond};
 ghost use lib.ListN.{length};
 ghost use lib.Dec.{ltb};
 ghost use Rattle.flux.specs.Answers.{stepAt, reading, writing, bufferAfter};
-ghost use Rattle.scp.specs.Answers.{Answer, validateAnswer, headerAnswer, footerAnswer, ofFooterData, trackAnswer, revolutionAnswer, speedAnswer, ofSpeedOnly, trackSpeedAnswer};
+ghost use Rattle.scp.specs.Answers.{Answer, validateAnswer, headerAnswer, footerAnswer, ofFooterData, trackAnswer, revolutionAnswer, fluxAnswer, speedAnswer, ofSpeedOnly, trackSpeedAnswer};
 ghost use Rattle.scp_rewrite.specs.Answering.{rewriteAnswer};
 ghost use Rattle.scp_rewrite.specs.Rewriting.{afterRewrite};
-ghost use Rattle.sequence.specs.Book.{answer};
-ghost use Rattle.sequence.specs.Book as book;
 ghost use Rattle.sequence.specs.Replaying.{replayAnswer, Replays};
 ghost use Rattle.scp_c.specs.Boundary.{packed, gives, codeOf, within, outAfter, numbersOf, whole as wholeFloat, floatsOf, stepNumbers, both, valuesOf};
 use flux::Cursor;
@@ -226,16 +224,16 @@ pub extern "C" fn scp_revolution(image: &[u8], track: u32, revolution: u32, out:
 // The flux of a revolution.
 #[no_mangle]
 pub extern "C" fn scp_flux(image: &[u8], track: u32, revolution: u32, out: &mut [u8]) -> u64
-    ensures { λ r. ⌜ r ≡ codeOf (within (length (now (out .entry))) (numbersOf (answer (now (image .entry)) (book.flux track revolution)))) ⌝ }
-    ensures { λ _. ⌜ now (out .exit) ≡ outAfter (now (out .entry)) (within (length (now (out .entry))) (numbersOf (answer (now (image .entry)) (book.flux track revolution)))) ⌝ }
+    ensures { λ r. ⌜ r ≡ codeOf (within (length (now (out .entry))) (numbersOf (fluxAnswer (now (image .entry)) track revolution))) ⌝ }
+    ensures { λ _. ⌜ now (out .exit) ≡ outAfter (now (out .entry)) (within (length (now (out .entry))) (numbersOf (fluxAnswer (now (image .entry)) track revolution))) ⌝ }
 {
-    let part = scp::flux(image, track, revolution);
-    if 0 < part.len() {
-        return give_bytes(out, part);
-    }
-    let found = scp::revolution(image, track, revolution);
-    match found {
-        RevolutionAnswer::Found(_) => 0,
+    let answer = scp::revolution(image, track, revolution);
+    match answer {
+        RevolutionAnswer::Found(d) => {
+            let place = d.place;
+            let part = scp_rows::part_of(image, place.0 as usize, 2 * (d.words as usize));
+            give_bytes(out, part)
+        }
         RevolutionAnswer::Refused(r) => code(r),
     }
 }

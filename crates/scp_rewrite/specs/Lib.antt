@@ -4,3 +4,4 @@ pub mod Rewriting
 pub mod Answering
 pub mod Sharing
 pub mod Steps
+pub mod OneRewrite

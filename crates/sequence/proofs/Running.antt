@@ -6,9 +6,11 @@ use native.Mathlib.Omega.{arith}
 use lib.ListN.{length}
 use lib.Seq.{sets}
 use Rattle.flux.proofs.Wrote.{Wrote, start, retell, moved, put-run}
-use Rattle.sequence.specs.Book.{Call, answer, after, finalBytes, answers}
-use Rattle.sequence.specs.Rows.{callAt, callsFrom, callsOf, rowOf, rowsOf}
-use Rattle.sequence.proofs.RowLaws.{row-length, rows-length, answers-length, calls-length}
+use Rattle.scp_book.specs.Book.{Call, answer, after, finalBytes, answers}
+use Rattle.scp_rows.specs.Rows.{rowOf}
+use Rattle.scp_rows.proofs.RowLaws.{row-length}
+use Rattle.sequence.specs.Calls.{callAt, callsFrom, callsOf, rowsOf}
+use Rattle.sequence.proofs.CallLaws.{rows-length, answers-length, calls-length}
 
 module _ (calls words : List ℕ) where
   calls-next : (i n : ℕ) → i < n → callsFrom calls words i (n - i) ≡ callAt calls words i ∷ callsFrom calls words (i + 1) (n - (i + 1))

@@ -6,17 +6,13 @@ use native.Mathlib.Omega.{arith}
 use lib.ListN.{length}
 use borrow.Author.Needs.{needs}
 use Rattle.flux.proofs.Wrote.{Wrote, retell, moved, whole-is}
-use Rattle.sequence.specs.Book as book
-use Rattle.sequence.specs.Book.{finalBytes}
-use Rattle.sequence.specs.Rows.{callAt, callsFrom, rowsOf}
-use Rattle.sequence.proofs.RowLaws.{row-length}
+use Rattle.scp_book.specs.Book as book
+use Rattle.scp_book.specs.Book.{finalBytes}
+use Rattle.sequence.specs.Calls.{callAt, callsFrom, rowsOf}
+use Rattle.scp_rows.proofs.RowLaws.{row-length}
 use Rattle.sequence.proofs.Running.{room, final-start, final-next, final-end, wrote-start, wrote-next, rows-end}
 use Rattle.sequence.proofs.run_calls.Statement.{statement}
 use Rattle.sequence.proofs.run_calls.Tie as tie
-use Rattle.sequence.proofs.run_calls.Reads as reads
-use Rattle.sequence.proofs.run_calls.Lts as lts
-use Rattle.sequence.proofs.call_row.Reads as call-row-reads
-use Rattle.sequence.proofs.put_row.Reads as put-row-reads
 
 abbrev Inv-loop : tie.InvT-loop
 Inv-loop image₀ calls words answers₀ n i₀ image answers i =
@@ -31,28 +27,23 @@ abbrev μ-loop : tie.MeasureT-loop
 μ-loop image₀ calls words answers₀ n i₀ image answers i =
     n - i
 
--- src/lib.rt:408:5
 loop-holds : tie.Need-loop-holds Inv-loop μ-loop
 loop-holds c =
     let a = c .before .before .before .before .args in
     (omega arith, c .before .before .before .before .pre, refl, final-start (a .calls .now) (a .words .now) _ _, wrote-start (a .calls .now) (a .words .now) _ _ _)
 
--- src/lib.rt:409:19
 call-row-requires : tie.Need-call-row-requires Inv-loop μ-loop
 call-row-requires c κs =
     search needs
 
--- src/lib.rt:410:26
 mul-put-row : tie.Need-mul-put-row Inv-loop μ-loop
 mul-put-row c =
     search needs
 
--- src/lib.rt:410:34
 slice-aggregate-put-row : tie.Need-slice-aggregate-put-row Inv-loop μ-loop
 slice-aggregate-put-row c =
     search needs
 
--- src/lib.rt:410:9
 put-row-requires : tie.Need-put-row-requires Inv-loop μ-loop
 put-row-requires c κs =
     let at-call = c .before .before .before .before in
@@ -65,17 +56,14 @@ put-row-requires c κs =
     let below = in-loop .loop-test .taken in
     omega arith
 
--- src/lib.rt:411:9
 add-i : tie.Need-add-i Inv-loop μ-loop
 add-i c =
     search needs
 
--- src/lib.rt:408:5
 loop-less : tie.Need-loop-less Inv-loop μ-loop
 loop-less c =
     search needs
 
--- src/lib.rt:408:5
 loop-again : tie.Need-loop-again Inv-loop μ-loop
 loop-again c =
     let at-put = c .before .before in
@@ -95,17 +83,14 @@ loop-again c =
       moved (sym (at-put .put-row .ensures)) refl (wrote-next calls words _ _ _ _ _ _ (l .i) _ below whole (made .1) (made .0) (l .inv .4)),
     )
 
--- src/lib.rt:401:1
 same-length : tie.Need-same-length Inv-loop μ-loop
 same-length c =
     c .before .loop .inv .2
 
--- src/lib.rt:401:1
 same-length-2 : tie.Need-same-length-2 Inv-loop μ-loop
 same-length-2 c =
     c .before .loop .inv .4 .same
 
--- src/lib.rt:401:1
 returns : tie.Need-returns Inv-loop μ-loop
 returns c =
     let l = c .before .loop in
