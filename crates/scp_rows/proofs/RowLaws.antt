@@ -19,8 +19,8 @@ use Rattle.scp.specs.declared.FooterData.{FooterData}
 use Rattle.scp.specs.declared.RevolutionAnswer.{RevolutionAnswer}
 use Rattle.scp.specs.declared.RevolutionAnswer.the-variants as revolution-answer
 use Rattle.scp.specs.Questions.{revolutionQuestion}
-use Rattle.scp.specs.Answers.{Answer, refused, none, numbers, footer, speeds, bytes, ofFooterData, ofRevolution, foundRevolution, revolutionAnswer, partOf, startOf, fluxAnswer}
-use Rattle.scp_rows.specs.Rows.{part, padded, rowOf}
+use Rattle.scp.specs.Answers.{Answer, refused, none, numbers, footer, speeds, bytes, ofRevolution, foundRevolution, revolutionAnswer, partOf, startOf, fluxAnswer}
+use Rattle.scp_rows.specs.Rows.{part, padded, rowOf, footerNumbers}
 
 -- ---- how long rows are
 
@@ -75,13 +75,13 @@ module _ (b : List ℕ) (t k : ℕ) where
   unfolding revolutionAnswer foundRevolution
   flux-refused r e = refused-by (passes (revolutionQuestion b t k)) r e
 
--- ---- the row of a footer, by its times
+-- ---- the numbers of a footer, by its times
 
 pub footer-same : (f : FooterData) {x y : ℕ} → x ≡ unsigned64 (f .created) → y ≡ unsigned64 (f .modified)
-    → (0 ∷ 0 ∷ 1 ∷ f .maker ∷ f .model ∷ f .serial ∷ f .creator ∷ f .application ∷ f .comments ∷ x ∷ y ∷ f .software ∷ f .hardware
-    ∷ f .firmware ∷ f .format ∷ 0 ∷ [])
-    ≡ rowOf (ofFooterData f)
+    → (1 ∷ f .maker ∷ f .model ∷ f .serial ∷ f .creator ∷ f .application ∷ f .comments ∷ x ∷ y ∷ f .software ∷ f .hardware ∷ f .firmware
+    ∷ f .format ∷ [])
+    ≡ footerNumbers f
 footer-same f =
     ap₂
-    (λ (x y : ℕ). 0 ∷ 0 ∷ 1 ∷ f .maker ∷ f .model ∷ f .serial ∷ f .creator ∷ f .application ∷ f .comments ∷ x ∷ y ∷ f .software ∷ f .hardware
-    ∷ f .firmware ∷ f .format ∷ 0 ∷ [])
+    (λ (x y : ℕ). 1 ∷ f .maker ∷ f .model ∷ f .serial ∷ f .creator ∷ f .application ∷ f .comments ∷ x ∷ y ∷ f .software ∷ f .hardware
+    ∷ f .firmware ∷ f .format ∷ [])

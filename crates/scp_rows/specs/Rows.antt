@@ -7,6 +7,7 @@ use lib.Dec.{T, eqb}
 use lib.Ieee.{Float, binary64, isNan, toBits}
 use Rattle.octets.specs.Numbers.{unsigned64}
 use Rattle.octets.specs.Sums.{byteSum}
+use Rattle.scp.specs.declared.FooterData.{FooterData}
 use Rattle.scp.specs.Answers.{Answer, refused, none, numbers, footer, speeds, bytes}
 use Rattle.scp_book.specs.Book as book
 use Rattle.scp_book.specs.Book.{Question}
@@ -47,6 +48,12 @@ rowOf (numbers vs) = padded (0 ∷ 0 ∷ vs)
 rowOf (footer offsets times versions) = padded (0 ∷ 0 ∷ 1 ∷ (offsets ++ (map unsigned64 times ++ versions)))
 rowOf (speeds xs) = padded (0 ∷ 0 ∷ 1 ∷ map (toBits binary64) xs)
 rowOf (bytes start b) = padded (0 ∷ 0 ∷ start ∷ length b ∷ byteSum b ∷ [])
+
+-- The numbers of a footer.
+abbrev pub footerNumbers : FooterData → List ℕ
+footerNumbers f =
+    1 ∷ f .maker ∷ f .model ∷ f .serial ∷ f .creator ∷ f .application ∷ f .comments ∷ unsigned64 (f .created) ∷ unsigned64 (f .modified)
+    ∷ f .software ∷ f .hardware ∷ f .firmware ∷ f .format ∷ []
 
 -- Speeds that are numbers: only such have bit patterns of their own.
 abbrev pub AllReal : List Float → Type 0

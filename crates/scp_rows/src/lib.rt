@@ -1,8 +1,10 @@
 // The row of 16 numbers that each question about a SuperCard Pro image answers: refusal number, position, the values, then zeros.
 ghost use mathlib.Core.Path.{_≡_};
+ghost use lib.ListN.{replicate};
 ghost use Rattle.scp.specs.Answers.{refused, none, bytes, validateAnswer, headerAnswer, ofFooterData, footerAnswer, trackAnswer, revolutionAnswer, fluxAnswer, ofSpeedOnly, speedAnswer, trackSpeedAnswer};
 ghost use Rattle.scp_book.specs.Book.{asked};
-ghost use Rattle.scp_rows.specs.Rows.{questionOf, part, rowOf, Real};
+ghost use Rattle.copies.specs.Copying.{copiedAt};
+ghost use Rattle.scp_rows.specs.Rows.{questionOf, part, rowOf, footerNumbers, Real};
 use refusals::Refusal;
 use scp::FooterAnswer;
 use scp::FooterData;
@@ -28,6 +30,15 @@ const FLUX: u64 = 5;
 const SPEED: u64 = 6;
 
 const TRACK_SPEED: u64 = 7;
+
+// The row of an answer with values: behind number 0 and position 0.
+fn values_row(values: &[u64]) -> [u64; 16]
+    ensures { λ r. ⌜ r ≡ copiedAt (replicate 16 0) 2 (now (values .entry)) ⌝ }
+{
+    let mut row = [0; 16];
+    copies::numbers(&mut row, 2, values);
+    row
+}
 
 // The row of an answer without values: all zeros.
 pub fn plain_row() -> [u64; 16]
@@ -77,37 +88,30 @@ fn header_row(image: &[u8]) -> [u64; 16]
 {
     let found = scp::header(image);
     match found {
-        HeaderAnswer::Found(h) => [
-            0,
-            0,
-            h.version as u64,
-            h.disk as u64,
-            h.revolutions as u64,
-            h.start as u64,
-            h.end as u64,
-            h.flags as u64,
-            h.width as u64,
-            h.heads as u64,
-            h.checksum as u64,
-            0,
-            0,
-            0,
-            0,
-            0,
-        ],
+        HeaderAnswer::Found(h) => values_row(
+            &[
+                h.version as u64,
+                h.disk as u64,
+                h.revolutions as u64,
+                h.start as u64,
+                h.end as u64,
+                h.flags as u64,
+                h.width as u64,
+                h.heads as u64,
+                h.checksum as u64,
+            ],
+        ),
         HeaderAnswer::Refused(r) => refused_row(r),
     }
 }
 
-// The row of a footer's numbers.
-fn footer_numbers(f: FooterData) -> [u64; 16]
-    ensures { λ r. ⌜ r ≡ rowOf (ofFooterData f) ⌝ }
+// The numbers of a footer: 1, six offsets, two times, four version bytes.
+pub fn footer_numbers(f: FooterData) -> [u64; 13]
+    ensures { λ r. ⌜ r ≡ footerNumbers f ⌝ }
 {
     let created = octets::unsigned(f.created);
     let modified = octets::unsigned(f.modified);
     [
-        0,
-        0,
         1,
         f.maker as u64,
         f.model as u64,
@@ -121,7 +125,6 @@ fn footer_numbers(f: FooterData) -> [u64; 16]
         f.hardware as u64,
         f.firmware as u64,
         f.format as u64,
-        0,
     ]
 }
 
@@ -131,7 +134,7 @@ fn footer_row(image: &[u8]) -> [u64; 16]
 {
     let found = scp::footer(image);
     match found {
-        FooterAnswer::Found(f) => footer_numbers(f),
+        FooterAnswer::Found(f) => values_row(&footer_numbers(f)),
         FooterAnswer::None => plain_row(),
         FooterAnswer::Refused(r) => refused_row(r),
     }
@@ -143,24 +146,14 @@ fn track_row(image: &[u8], track: u32) -> [u64; 16]
 {
     let found = scp::track(image, track);
     match found {
-        TrackAnswer::Found(d) => [
-            0,
-            0,
-            d.cylinder as u64,
-            d.head as u64,
-            d.place.0,
-            d.revolutions as u64,
-            0,
-            0,
-            0,
-            0,
-            0,
-            0,
-            0,
-            0,
-            0,
-            0,
-        ],
+        TrackAnswer::Found(d) => values_row(
+            &[
+                d.cylinder as u64,
+                d.head as u64,
+                d.place.0,
+                d.revolutions as u64,
+            ],
+        ),
         TrackAnswer::Refused(r) => refused_row(r),
     }
 }
@@ -171,24 +164,7 @@ fn revolution_row(image: &[u8], track: u32, revolution: u32) -> [u64; 16]
 {
     let found = scp::revolution(image, track, revolution);
     match found {
-        RevolutionAnswer::Found(d) => [
-            0,
-            0,
-            d.duration as u64,
-            d.words as u64,
-            d.place.0,
-            0,
-            0,
-            0,
-            0,
-            0,
-            0,
-            0,
-            0,
-            0,
-            0,
-            0,
-        ],
+        RevolutionAnswer::Found(d) => values_row(&[d.duration as u64, d.words as u64, d.place.0]),
         RevolutionAnswer::Refused(r) => refused_row(r),
     }
 }
@@ -198,24 +174,7 @@ fn bytes_row(start: u64, part: &[u8]) -> [u64; 16]
     ensures { λ r. ⌜ r ≡ rowOf (bytes start (now (part .entry))) ⌝ }
 {
     let sum = octets::byte_sum(part);
-    [
-        0,
-        0,
-        start,
-        part.len() as u64,
-        sum as u64,
-        0,
-        0,
-        0,
-        0,
-        0,
-        0,
-        0,
-        0,
-        0,
-        0,
-        0,
-    ]
+    values_row(&[start, part.len() as u64, sum as u64])
 }
 
 // n bytes from a start on, cut where the bytes end.
@@ -255,7 +214,7 @@ fn rpm_row(s: Speed) -> [u64; 16]
     ensures { λ r. ⌜ r ≡ rowOf (ofSpeedOnly s) ⌝ }
 {
     match s {
-        Speed::Rpm(x) => [0, 0, 1, f64::to_bits(x), 0, 0, 0, 0, 0, 0, 0, 0, 0, 0, 0, 0],
+        Speed::Rpm(x) => values_row(&[1, f64::to_bits(x)]),
         Speed::None => plain_row(),
     }
 }
@@ -277,24 +236,9 @@ fn track_speed_row(image: &[u8], track: u32) -> [u64; 16]
 {
     let found = scp::track_speed(image, track);
     match found {
-        TrackSpeedAnswer::Found(s) => [
-            0,
-            0,
-            1,
-            f64::to_bits(s.slowest),
-            f64::to_bits(s.fastest),
-            0,
-            0,
-            0,
-            0,
-            0,
-            0,
-            0,
-            0,
-            0,
-            0,
-            0,
-        ],
+        TrackSpeedAnswer::Found(s) => values_row(
+            &[1, f64::to_bits(s.slowest), f64::to_bits(s.fastest)],
+        ),
         TrackSpeedAnswer::None => plain_row(),
         TrackSpeedAnswer::Refused(r) => refused_row(r),
     }

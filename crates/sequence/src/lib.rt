@@ -2,7 +2,6 @@
 ghost use mathlib.Core.Path.{_≡_};
 ghost use Prim.Native.Nat.{_+_, _*_, _/_, _≤_};
 ghost use lib.ListN.{length};
-ghost use lib.Seq.{sets};
 ghost use Rattle.scp_rewrite.specs.Rewriting.{afterRewrite};
 ghost use Rattle.scp_rewrite.specs.Answering.{rewriteAnswer};
 ghost use Rattle.scp_book.specs.Book.{answer, after, finalBytes, answers as answersOf};
@@ -29,18 +28,6 @@ fn cap(n: u64) -> u32
         return n as u32;
     }
     4_294_967_295
-}
-
-// Stores a row from `at` on.
-fn put_row(answers: &mut [u64], at: usize, row: &[u64])
-    requires { ⌜ at + length (now row) ≤ length (now answers) ⌝ }
-    ensures { λ _. ⌜ now (answers .exit) ≡ sets (now (answers .entry)) at (now (row .entry)) ⌝ }
-{
-    let mut j = 0;
-    while j < row.len() {
-        answers[at + j] = row[j];
-        j += 1;
-    }
 }
 
 // Rewrites a revolution, and hands back the row of the answer.
@@ -89,7 +76,7 @@ fn run_calls(image: &mut [u8], calls: &[u64], words: &[u8], answers: &mut [u64])
     let mut i = 0;
     while i < n {
         let row = call_row(image, calls, words, i);
-        put_row(answers, 16 * i, &row);
+        copies::numbers(answers, 16 * i, &row);
         i += 1;
     }
 }

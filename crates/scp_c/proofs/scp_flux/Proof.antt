@@ -2,8 +2,8 @@
 use mathlib.Core.Path.{sym, ap, _∙_}
 use Rattle.scp.specs.Answers.{bytes, ofRevolution}
 use Rattle.scp_rows.proofs.RowLaws.{flux-found, flux-refused}
-use Rattle.scp_c.specs.Boundary.{numbersOf}
-use Rattle.scp_c.proofs.Passing.{pass-values, pass-refusal}
+use Rattle.scp_boundary.specs.Boundary.{numbersOf}
+use Rattle.scp_boundary.proofs.CodeAndBuffer.{pass-values, pass-refusal}
 use borrow.Author.Needs.{needs}
 use Rattle.scp_c.proofs.scp_flux.Statement.{statement}
 use Rattle.scp_c.proofs.scp_flux.Tie as tie

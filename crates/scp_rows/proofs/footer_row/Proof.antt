@@ -1,5 +1,7 @@
 -- The row is that of the answer which the call gives, in each of its cases.
 use mathlib.Core.Path.{sym, ap, _∙_}
+use lib.ListN.{replicate}
+use Rattle.copies.specs.Copying.{copiedAt}
 use Rattle.scp.specs.Answers.{ofFooter}
 use Rattle.scp_rows.specs.Rows.{rowOf}
 use borrow.Author.Needs.{needs}
@@ -15,6 +17,12 @@ enum-known-found c = search needs
 footer-numbers-requires : tie.Need-footer-numbers-requires
 footer-numbers-requires c κs = search needs
 
+slice-aggregate-values-row : tie.Need-slice-aggregate-values-row
+slice-aggregate-values-row c = search needs
+
+values-row-requires : tie.Need-values-row-requires
+values-row-requires c κs = search needs
+
 enum-told : tie.Need-enum-told
 enum-told c = search needs
 
@@ -29,9 +37,11 @@ refused-row-requires c κs = search needs
 
 returns : tie.Need-returns
 returns c =
-    let at-told = c .before .before in
+    let at-numbers = c .before .before in
+    let at-told = at-numbers .before .before in
     let at-call = at-told .before .before in
-    c .footer-numbers .ensures ∙ ap rowOf (ap ofFooter (sym (at-told .found .given .1)) ∙ at-call .footer .ensures)
+    c .values-row .ensures ∙ ap (copiedAt (replicate 16 0) 2) (at-numbers .footer-numbers .ensures)
+    ∙ ap rowOf (ap ofFooter (sym (at-told .found .given .1)) ∙ at-call .footer .ensures)
 
 returns-2 : tie.Need-returns-2
 returns-2 c =
@@ -52,6 +62,8 @@ footer-row-spec =
     footer-requires
     enum-known-found
     footer-numbers-requires
+    slice-aggregate-values-row
+    values-row-requires
     enum-told
     plain-row-requires
     enum-known-found-2

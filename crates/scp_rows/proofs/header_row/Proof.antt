@@ -12,9 +12,6 @@ header-requires c κs = search needs
 enum-known-found : tie.Need-enum-known-found
 enum-known-found c = search needs
 
-cast-t6 : tie.Need-cast-t6
-cast-t6 c = search needs
-
 cast-t7 : tie.Need-cast-t7
 cast-t7 c = search needs
 
@@ -39,6 +36,15 @@ cast-t13 c = search needs
 cast-t14 : tie.Need-cast-t14
 cast-t14 c = search needs
 
+cast-t15 : tie.Need-cast-t15
+cast-t15 c = search needs
+
+slice-aggregate-values-row : tie.Need-slice-aggregate-values-row
+slice-aggregate-values-row c = search needs
+
+values-row-requires : tie.Need-values-row-requires
+values-row-requires c κs = search needs
+
 enum-known-found-2 : tie.Need-enum-known-found-2
 enum-known-found-2 c = search needs
 
@@ -47,9 +53,9 @@ refused-row-requires c κs = search needs
 
 returns : tie.Need-returns
 returns c =
-    let at-told = c .before .before .before .before .before .before .before .before .before .before in
+    let at-told = c .before .before .before .before .before .before .before .before .before .before .before .before in
     let at-call = at-told .before .before in
-    ap rowOf (ap ofHeader (sym (at-told .found .given .1)) ∙ at-call .header .ensures)
+    c .values-row .ensures ∙ ap rowOf (ap ofHeader (sym (at-told .found .given .1)) ∙ at-call .header .ensures)
 
 returns-2 : tie.Need-returns-2
 returns-2 c =
@@ -63,7 +69,6 @@ header-row-spec =
     (tie.spec
     header-requires
     enum-known-found
-    cast-t6
     cast-t7
     cast-t8
     cast-t9
@@ -72,6 +77,9 @@ header-row-spec =
     cast-t12
     cast-t13
     cast-t14
+    cast-t15
+    slice-aggregate-values-row
+    values-row-requires
     enum-known-found-2
     refused-row-requires
     returns

@@ -13,19 +13,25 @@ track-speed-requires c κs = search needs
 enum-known-found : tie.Need-enum-known-found
 enum-known-found c = search needs
 
-float-to-bits-t7 : tie.Need-float-to-bits-t7
-float-to-bits-t7 c =
+float-to-bits-t8 : tie.Need-float-to-bits-t8
+float-to-bits-t8 c =
     let at-told = c .before .before in
     let at-call = at-told .before .before in
     let real = subst Real (sym (ap ofTrackSpeed (sym (at-told .found .given .1)) ∙ at-call .track-speed .ensures)) (track-speed-real _ _) in
     real .0
 
-float-to-bits-t8 : tie.Need-float-to-bits-t8
-float-to-bits-t8 c =
+float-to-bits-t9 : tie.Need-float-to-bits-t9
+float-to-bits-t9 c =
     let at-told = c .before .before .before in
     let at-call = at-told .before .before in
     let real = subst Real (sym (ap ofTrackSpeed (sym (at-told .found .given .1)) ∙ at-call .track-speed .ensures)) (track-speed-real _ _) in
     real .1 .0
+
+slice-aggregate-values-row : tie.Need-slice-aggregate-values-row
+slice-aggregate-values-row c = search needs
+
+values-row-requires : tie.Need-values-row-requires
+values-row-requires c κs = search needs
 
 enum-told : tie.Need-enum-told
 enum-told c = search needs
@@ -41,9 +47,9 @@ refused-row-requires c κs = search needs
 
 returns : tie.Need-returns
 returns c =
-    let at-told = c .before .before .before in
+    let at-told = c .before .before .before .before .before in
     let at-call = at-told .before .before in
-    ap rowOf (ap ofTrackSpeed (sym (at-told .found .given .1)) ∙ at-call .track-speed .ensures)
+    c .values-row .ensures ∙ ap rowOf (ap ofTrackSpeed (sym (at-told .found .given .1)) ∙ at-call .track-speed .ensures)
 
 returns-2 : tie.Need-returns-2
 returns-2 c =
@@ -63,8 +69,10 @@ track-speed-row-spec =
     (tie.spec
     track-speed-requires
     enum-known-found
-    float-to-bits-t7
     float-to-bits-t8
+    float-to-bits-t9
+    slice-aggregate-values-row
+    values-row-requires
     enum-told
     plain-row-requires
     enum-known-found-2

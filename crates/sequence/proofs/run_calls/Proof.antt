@@ -1,7 +1,7 @@
 -- The loop's invariant: the calls from row i on, made on the image as it stands, end in the final bytes, and their rows are still to be
 -- written.
 use mathlib.Core.Path.{_≡_, refl, sym, ap, _∙_}
-use Prim.Native.Nat.{_-_, _*_, _≤_}
+use Prim.Native.Nat.{_-_, _*_, _/_, _≤_}
 use native.Mathlib.Omega.{arith}
 use lib.ListN.{length}
 use borrow.Author.Needs.{needs}
@@ -9,8 +9,8 @@ use Rattle.flux.proofs.Wrote.{Wrote, retell, moved, whole-is}
 use Rattle.scp_book.specs.Book as book
 use Rattle.scp_book.specs.Book.{finalBytes}
 use Rattle.sequence.specs.Calls.{callAt, callsFrom, rowsOf}
-use Rattle.scp_rows.proofs.RowLaws.{row-length}
-use Rattle.sequence.proofs.Running.{room, final-start, final-next, final-end, wrote-start, wrote-next, rows-end}
+use Rattle.copies.proofs.CopyLaws.{copy-fits}
+use Rattle.sequence.proofs.Running.{room, row-fits, final-start, final-next, final-end, wrote-start, wrote-next, rows-end}
 use Rattle.sequence.proofs.run_calls.Statement.{statement}
 use Rattle.sequence.proofs.run_calls.Tie as tie
 
@@ -36,25 +36,16 @@ call-row-requires : tie.Need-call-row-requires Inv-loop μ-loop
 call-row-requires c κs =
     search needs
 
-mul-put-row : tie.Need-mul-put-row Inv-loop μ-loop
-mul-put-row c =
+mul-numbers : tie.Need-mul-numbers Inv-loop μ-loop
+mul-numbers c =
     search needs
 
-slice-aggregate-put-row : tie.Need-slice-aggregate-put-row Inv-loop μ-loop
-slice-aggregate-put-row c =
+slice-aggregate-numbers : tie.Need-slice-aggregate-numbers Inv-loop μ-loop
+slice-aggregate-numbers c =
     search needs
 
-put-row-requires : tie.Need-put-row-requires Inv-loop μ-loop
-put-row-requires c κs =
-    let at-call = c .before .before .before .before in
-    let in-loop = at-call .before .before in
-    let l = in-loop .before .loop in
-    let a = in-loop .before .before .before .before .before .before .args in
-    let size = ap length (at-call .call-row .ensures .0) ∙ row-length (book.answer (l .image) (callAt (a .calls .now) (a .words .now) (l .i))) in
-    let same = l .inv .4 .same in
-    let places = l .inv .1 in
-    let below = in-loop .loop-test .taken in
-    omega arith
+numbers-requires : tie.Need-numbers-requires Inv-loop μ-loop
+numbers-requires c κs = search needs
 
 add-i : tie.Need-add-i Inv-loop μ-loop
 add-i c =
@@ -75,12 +66,14 @@ loop-again c =
     let words = a .words .now in
     let below = in-loop .loop-test .taken in
     let made = at-call .call-row .ensures in
-    let whole = room calls words (a .image .now) (a .answers .now) (l .inv .1) in (
+    let whole = room calls words (a .image .now) (a .answers .now) (l .inv .1) in
+    let fits = row-fits (book.answer (l .image) (callAt calls words (l .i))) (l .answers) (a .answers .now) (l .i) (length calls / 6) (made .0) (l .inv .1) (l .inv .4 .same) below in (
       search needs,
       l .inv .1,
       omega arith,
       final-next calls words _ _ _ (l .i) _ below (made .1) (l .inv .3),
-      moved (sym (at-put .put-row .ensures)) refl (wrote-next calls words _ _ _ _ _ _ (l .i) _ below whole (made .1) (made .0) (l .inv .4)),
+      moved (sym (at-put .numbers .ensures .1 ∙ copy-fits (l .answers) (at-call .call-row .result) _ fits)) refl
+          (wrote-next calls words _ _ _ _ _ _ (l .i) _ below whole (made .1) (made .0) (l .inv .4)),
     )
 
 same-length : tie.Need-same-length Inv-loop μ-loop
@@ -110,9 +103,9 @@ run-calls-spec =
     μ-loop
     loop-holds
     call-row-requires
-    mul-put-row
-    slice-aggregate-put-row
-    put-row-requires
+    mul-numbers
+    slice-aggregate-numbers
+    numbers-requires
     add-i
     loop-less
     loop-again
