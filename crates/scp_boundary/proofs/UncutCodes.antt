@@ -1,5 +1,5 @@
--- No refusal of a call on an image is cut: each has one of the numbers 1 to 18, and as position 0, the number of a string or the index
--- of a track. So both limits are kept by each test of a chain, by each index of a search, and by each question.
+-- No refusal of a call on an image is cut: each number is below 256, and each position 0, the number of a string or the index of a track,
+-- below 256 too. Both limits are kept by each test of a chain, by each index of a search, and by each question.
 use Prim.Native.Nat.{ℕ, zero, suc, _+_, _<_}
 use mathlib.Core.List.{List, []}
 use mathlib.Core.Bool.{Bool, true, false, not, cond}
@@ -8,18 +8,20 @@ use lib.Dec.{eqb}
 use Rattle.refusals.specs.declared.Refusal.{Refusal}
 use Rattle.refusals.specs.Refusals.{none, refusal, passes, refuseIf, firstOf}
 use Rattle.refusals.specs.Search.{firstFrom}
-use Rattle.scp_fields.specs.Header.{trackSlots, revolutions, hasFooter, trackEntry}
+use Rattle.scp_fields.specs.Header.{trackSlots, hasFooter, trackEntry}
 use Rattle.scp_fields.specs.Footer.{stringSlots}
 use Rattle.scp_footer.specs.Footer.{stringFaultAt, stringFault, footerFault}
 use Rattle.scp_header.specs.HeaderFault.{headFault}
 use Rattle.refusals.proofs.Finding.{Each}
 use Rattle.scp_tracks.specs.Tracks.{durationAt, trackFaultAt, trackFault, tracksFault}
 use Rattle.scp_open.specs.Opening.{openFault}
-use Rattle.scp_speed.specs.Durations.{longestFrom}
+use Rattle.scp_speed.specs.Speeds.{longest, speedsOf}
+use Rattle.scp_speed.specs.declared.TrackSpeeds.{TrackSpeeds}
+use Rattle.scp_speed.specs.declared.SpeedRange.the-variants as range
 use Rattle.scp_lookup.specs.Questions.{trackThen, trackQuestion, revolutionThen, revolutionQuestion}
 use Rattle.scp.specs.Validating.{validateFault}
 use Rattle.scp.specs.Answers as answers
-use Rattle.scp.specs.Answers.{Answer, numbers, unless, headerAnswer, footerValues, footerAnswer, trackAnswer, revolutionAnswer, speedAnswer, trackSpeedValues, trackSpeedAnswer}
+use Rattle.scp.specs.Answers.{Answer, numbers, unless, headerAnswer, footerValues, footerAnswer, trackAnswer, revolutionAnswer, speedAnswer, ofSpeedRange, trackSpeedAnswer}
 use Rattle.scp_sharing.specs.RewriteFault.{wordsThenShared, rewriteFault}
 use Rattle.scp_book.specs.Book.{Question, validate, header, footer, track, revolution, flux, speed, trackSpeed, ask, rewrite, asked, answer}
 use Rattle.scp_boundary.specs.Theorems.{Whole, Uncut}
@@ -44,10 +46,10 @@ unfolding firstOf
 small-first f rest h k = small-either (not (passes f)) f rest h k
 
 -- a refusal at string or track p, and one of position 0
-small-at : (t : Bool) (rest : Refusal) (n p : ℕ) → n < 19 → p < 168 → Small rest → Small (refuseIf t (refusal n p) rest)
+small-at : (t : Bool) (rest : Refusal) (n p : ℕ) → n < 256 → p < 256 → Small rest → Small (refuseIf t (refusal n p) rest)
 small-at t rest n p h q k = small-either t (refusal n p) rest (omega arith, omega arith) k
 
-small-if : (t : Bool) (rest : Refusal) (n : ℕ) → n < 19 → Small rest → Small (refuseIf t (refusal n 0) rest)
+small-if : (t : Bool) (rest : Refusal) (n : ℕ) → n < 256 → Small rest → Small (refuseIf t (refusal n 0) rest)
 small-if t rest n h k = small-at t rest n 0 h (omega arith) k
 
 small-from : (f : ℕ → Refusal) (i n : ℕ) → Each (λ j. Small (f j)) i n → Small (firstFrom f i n)
@@ -60,7 +62,7 @@ small-from f i (suc n) h =
 -- ---- what refuses an image
 
 module _ (b : List ℕ) where
-  string-small : (j : ℕ) → j < 6 → Small (stringFault b j)
+  string-small : (j : ℕ) → j < 256 → Small (stringFault b j)
   unfolding stringFaultAt
   string-small j h = small-if _ _ 0 (omega arith) (small-at _ _ 8 j (omega arith) (omega arith) small-none)
 
@@ -82,16 +84,14 @@ module _ (b : List ℕ) where
       (small-if _ _ 6 (omega arith)
       footer-small)))))
 
-  track-small : (t : ℕ) → t < 168 → Small (trackFault b t)
+  track-small : (t : ℕ) → t < 256 → Small (trackFault b t)
   unfolding trackFaultAt
   track-small t h =
       small-if _ _ 0 (omega arith)
       (small-at _ _ 9 t (omega arith) h
       (small-at _ _ 10 t (omega arith) h
-      (small-at _ _ 10 t (omega arith) h
-      (small-at _ _ 10 t (omega arith) h
       (small-at _ _ 11 t (omega arith) h
-      small-none)))))
+      small-none)))
 
   open-small : Small (openFault b)
   unfolding openFault
@@ -125,8 +125,12 @@ whole-either false a c h k = k
 whole-unless : (f : Refusal) (a : Answer) → Small f → Whole a → Whole (unless f a)
 whole-unless f a h k = whole-either (passes f) a _ k (exact (f .number) (f .position) (h .0) (h .1))
 
+range-whole : (t : Bool) (s : TrackSpeeds) → Whole (ofSpeedRange (cond t range.None (range.Speeds s)))
+range-whole true s = tt
+range-whole false s = tt
+
 question-whole : (b : List ℕ) (q : Question) → Whole (asked b q)
-unfolding asked headerAnswer footerAnswer footerValues trackAnswer revolutionAnswer speedAnswer trackSpeedAnswer trackSpeedValues
+unfolding asked headerAnswer footerAnswer footerValues trackAnswer revolutionAnswer speedAnswer trackSpeedAnswer speedsOf
 question-whole b validate = whole-unless (validateFault b) _ (validate-small b) tt
 question-whole b header = whole-unless (openFault b) _ (open-small b) tt
 question-whole b footer = whole-unless (openFault b) _ (open-small b) (whole-either (hasFooter b) (footerValues b) answers.none tt tt)
@@ -138,7 +142,7 @@ question-whole b (speed t k) =
     (whole-either (eqb (durationAt b (trackEntry b t) k) 0) answers.none _ tt tt)
 question-whole b (trackSpeed t) =
     whole-unless (trackQuestion b t) _ (asked-small b t none small-none)
-    (whole-either (eqb (longestFrom (durationAt b (trackEntry b t)) 0 (revolutions b)) 0) answers.none _ tt tt)
+    (range-whole (eqb (longest b (trackEntry b t)) 0) _)
 
 pub uncut : Uncut
 unfolding answer

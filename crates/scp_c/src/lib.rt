@@ -14,11 +14,11 @@ use flux::Step;
 use flux::Written;
 use scp::FooterAnswer;
 use scp::HeaderAnswer;
-use scp_lookup::RevolutionAnswer;
 use scp::SpeedAnswer;
 use scp::TrackAnswer;
 use scp::TrackSpeedAnswer;
 use scp::Validated;
+use scp_lookup::RevolutionAnswer;
 use scp_rewrite::Rewritten;
 use sequence::Replayed;
 

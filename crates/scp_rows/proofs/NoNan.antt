@@ -7,12 +7,12 @@ use lib.IntN.{ℤ, pos}
 use lib.Ieee.{Float, nan, inf, fin, Format, binary64, prec, emax, low, up, down, unlike, odd, units, round, div, ofInt, isNan}
 use mathlib.Core.List.{List}
 use Rattle.refusals.specs.Refusals.{passes}
-use Rattle.scp_fields.specs.Header.{revolutions, trackEntry}
+use Rattle.scp_fields.specs.Header.{trackEntry}
 use Rattle.scp_tracks.specs.Tracks.{durationAt}
-use Rattle.scp_speed.specs.Speeds.{rpmOf}
+use Rattle.scp_speed.specs.Speeds.{rpmOf, longest, shortest, speedsOf}
+use Rattle.scp_speed.specs.declared.SpeedRange.the-variants as range
 use Rattle.scp_lookup.specs.Questions.{trackQuestion, revolutionQuestion}
-use Rattle.scp_speed.specs.Durations.{longestFrom}
-use Rattle.scp.specs.Answers.{Answer, none, speedAnswer, trackSpeedValues, trackSpeedAnswer}
+use Rattle.scp.specs.Answers.{Answer, none, speedAnswer, ofSpeedRange, trackSpeedAnswer}
 use Rattle.scp_rows.specs.Rows.{Real}
 
 odd-no-nan : (d : ℕ) (s : Bool) (q k l : ℕ) → isNan (odd d s q k l) ≡ false
@@ -76,8 +76,13 @@ unfolding speedAnswer
 speed-real b t k =
     pick-real (passes (revolutionQuestion b t k)) _ _ (pick-real (eqb (durationAt b (trackEntry b t) k) 0) none _ tt (rpm-real _, tt)) tt
 
+range-real : (x : Bool) (most least : ℕ)
+    → Real (ofSpeedRange (cond x range.None (range.Speeds (record { slowest = rpmOf most; fastest = rpmOf least }))))
+range-real true most least = tt
+range-real false most least = (rpm-real most, (rpm-real least, tt))
+
 pub track-speed-real : (b : List ℕ) (t : ℕ) → Real (trackSpeedAnswer b t)
-unfolding trackSpeedAnswer trackSpeedValues
+unfolding trackSpeedAnswer speedsOf
 track-speed-real b t =
     pick-real (passes (trackQuestion b t)) _ _
-    (pick-real (eqb (longestFrom (durationAt b (trackEntry b t)) 0 (revolutions b)) 0) none _ tt (rpm-real _, (rpm-real _, tt))) tt
+    (range-real (eqb (longest b (trackEntry b t)) 0) (longest b (trackEntry b t)) (shortest b (trackEntry b t))) tt

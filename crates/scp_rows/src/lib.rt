@@ -9,11 +9,11 @@ use refusals::Refusal;
 use scp::FooterAnswer;
 use scp::FooterData;
 use scp::HeaderAnswer;
-use scp_lookup::RevolutionAnswer;
 use scp::SpeedAnswer;
 use scp::TrackAnswer;
 use scp::TrackSpeedAnswer;
 use scp::Validated;
+use scp_lookup::RevolutionAnswer;
 use scp_speed::Speed;
 
 // The kinds of questions; any other is a validation.
