@@ -133,12 +133,12 @@ fn read_footer(image: &[u8]) -> FooterData
         creator: scp_fields::string_entry(image, 3),
         application: scp_fields::string_entry(image, 4),
         comments: scp_fields::string_entry(image, 5),
-        created: octets::le64(image, f + 24),
-        modified: octets::le64(image, f + 32),
-        software: image[f + 40],
-        hardware: image[f + 41],
-        firmware: image[f + 42],
-        format: image[f + 43],
+        created: octets::le64(image, f + scp_fields::CREATED_AT),
+        modified: octets::le64(image, f + scp_fields::MODIFIED_AT),
+        software: image[f + scp_fields::SOFTWARE_AT],
+        hardware: image[f + scp_fields::HARDWARE_AT],
+        firmware: image[f + scp_fields::FIRMWARE_AT],
+        format: image[f + scp_fields::FORMAT_AT],
     }
 }
 

@@ -10,7 +10,7 @@ use Rattle.refusals.specs.Refusals.{none, refusal, passes, refuseIf, firstOf}
 use Rattle.refusals.specs.Search.{firstFrom}
 use Rattle.scp_fields.specs.Header.{trackSlots, revolutions, hasFooter, trackEntry}
 use Rattle.scp_fields.specs.Footer.{stringSlots}
-use Rattle.scp_header.specs.Footer.{stringFaultAt, stringFault, footerFault}
+use Rattle.scp_footer.specs.Footer.{stringFaultAt, stringFault, footerFault}
 use Rattle.scp_header.specs.HeaderFault.{headFault}
 use Rattle.refusals.proofs.Finding.{Each}
 use Rattle.scp_tracks.specs.Tracks.{durationAt, trackFaultAt, trackFault, tracksFault}

@@ -1,13 +1,16 @@
-// The listing of an image, written to standard output. All that matters is in the library `scp`; this only prints it.
+// The listing of an image, written to standard output. The image is opened once, when it is validated: what is valid is then read by its
+// fields, each by its one reading in `scp_fields`, `scp_tracks` and `flux`.
 ghost use mathlib.Core.Path.{_≡_};
 ghost use Rattle.scp.specs.Answers.{ofValidated, validateAnswer};
+ghost use Rattle.refusals.specs.Refusals.{refusal};
 use flux::Cursor;
 use flux::Step;
 use refusals::Refusal;
-use scp::HeaderAnswer;
-use scp::TrackAnswer;
 use scp::Validated;
-use scp_lookup::RevolutionAnswer;
+use scp_tracks::RevolutionData;
+
+// The most bytes that the listing program takes.
+pub const INPUT_LIMIT: usize = 65_536;
 
 fn text(s: &[u8]) {
     io::write_all(1, s);
@@ -26,78 +29,89 @@ fn print_refusal(r: Refusal) {
     text(b"\n");
 }
 
-// The intervals and the open time of flux, by steps from the first word.
+// The flux of a revolution, or nothing where it does not lie in the image, as it does in every valid one.
+fn flux_of(image: &[u8], data: RevolutionData) -> &[u8] {
+    let place = data.place;
+    let at = place.0;
+    let size = image.len() as u64;
+    let bytes = 2 * (data.words as u64);
+    if size < at {
+        return &image[..0];
+    }
+    if size - at < bytes {
+        return &image[..0];
+    }
+    let start = at as usize;
+    let end = (at + bytes) as usize;
+    &image[start..end]
+}
+
+// The intervals and the open time of flux, in one pass: a step for each interval, of which there are fewer than bytes, and one more for the
+// open time.
 fn print_flux(flux: &[u8]) {
     let mut word: usize = 0;
     let mut count: u64 = 0;
+    let mut open: u64 = 0;
     let mut left = flux.len();
     while 0 < left {
         left -= 1;
         let cursor = Cursor { word };
-        if let Step::Interval {
-            ticks: _,
-            open: _,
-            next,
-        } = cursor.step(flux) {
-            word = next.word;
-            count = std::num::wrapping_add_u64(count, 1);
-        } else {
-            left = 0;
+        match cursor.step(flux) {
+            Step::Interval {
+                ticks: _,
+                open: _,
+                next,
+            } => {
+                word = next.word;
+                count = std::num::wrapping_add_u64(count, 1);
+            }
+            Step::Open {
+                open: found,
+                next: _,
+            } => {
+                open = found;
+                left = 0;
+            }
+            Step::Refused(_) => {
+                left = 0;
+            }
         }
     }
     field(b" intervals ", count);
-    print_open(word, flux);
+    field(b" open ", open);
 }
 
-// The open time from a word on.
-fn print_open(word: usize, flux: &[u8]) {
-    let cursor = Cursor { word };
-    match cursor.step(flux) {
-        Step::Open { open, next: _ } => field(b" open ", open),
-        Step::Interval {
-            ticks: _,
-            open: _,
-            next: _,
-        } => text(b" open ?"),
-        Step::Refused(r) => print_refusal(r),
+// The line of revolution k of track t, whose header stands at the entry.
+fn print_revolution(image: &[u8], t: u32, entry: u32, k: u32) {
+    let data = scp_tracks::revolution_data(image, entry, k);
+    field(b"track ", t as u64);
+    field(b" turn ", k as u64);
+    field(b" ticks ", data.duration as u64);
+    field(b" words ", data.words as u64);
+    print_flux(flux_of(image, data));
+    text(b"\n");
+}
+
+// The lines of a track's revolutions; none where its entry is 0.
+fn print_track(image: &[u8], t: u32) {
+    let entry = scp_fields::track_entry(image, t);
+    if entry == 0 {
+        return;
     }
-}
-
-// The line of revolution k of track t.
-fn print_revolution(image: &[u8], t: u32, k: u32) {
-    if let RevolutionAnswer::Found(data) = scp::revolution(image, t, k) {
-        field(b"track ", t as u64);
-        field(b" turn ", k as u64);
-        field(b" ticks ", data.duration as u64);
-        field(b" words ", data.words as u64);
-        print_flux(scp::flux(image, t, k));
-        text(b"\n");
-    }
-}
-
-// The lines of a track's revolutions.
-fn print_track(image: &[u8], t: u32, revolutions: u32) {
+    let revolutions = scp_fields::revolutions(image) as u32;
     let mut k: u32 = 0;
     while k < revolutions {
-        print_revolution(image, t, k);
+        print_revolution(image, t, entry, k);
         k += 1;
     }
-}
-
-// How many revolutions track t has; 0 where it is absent.
-fn revolutions_of(image: &[u8], t: u32) -> u32 {
-    if let TrackAnswer::Found(data) = scp::track(image, t) {
-        return data.revolutions;
-    }
-    0
 }
 
 // How many tracks are present.
 fn count_tracks(image: &[u8]) -> u64 {
     let mut n: u64 = 0;
-    let mut t: u32 = 0;
-    while t < 168 {
-        if 0 < revolutions_of(image, t) {
+    let mut t: usize = 0;
+    while t < scp_fields::TRACK_SLOTS {
+        if scp_fields::track_entry(image, t as u32) != 0 {
             n = std::num::wrapping_add_u64(n, 1);
         }
         t += 1;
@@ -105,24 +119,17 @@ fn count_tracks(image: &[u8]) -> u64 {
     n
 }
 
-// The lines of all tracks.
-fn print_tracks(image: &[u8]) {
-    let mut t: u32 = 0;
-    while t < 168 {
-        print_track(image, t, revolutions_of(image, t));
+// The line of the image, and the lines of its tracks.
+fn print_image(image: &[u8]) {
+    field(b"ok ", image.len() as u64);
+    field(b" tracks ", count_tracks(image));
+    field(b" turns ", scp_fields::revolutions(image) as u64);
+    field(b" sum ", scp_fields::checksum(image) as u64);
+    text(b"\n");
+    let mut t: usize = 0;
+    while t < scp_fields::TRACK_SLOTS {
+        print_track(image, t as u32);
         t += 1;
-    }
-}
-
-// The first line, and the lines of the tracks.
-fn print_valid(image: &[u8]) {
-    if let HeaderAnswer::Found(header) = scp::header(image) {
-        field(b"ok ", image.len() as u64);
-        field(b" tracks ", count_tracks(image));
-        field(b" turns ", header.revolutions as u64);
-        field(b" sum ", header.checksum as u64);
-        text(b"\n");
-        print_tracks(image);
     }
 }
 
@@ -133,7 +140,7 @@ pub fn list(image: &[u8]) -> Validated
     let answer = scp::validate(image);
     match answer {
         Validated::Valid => {
-            print_valid(image);
+            print_image(image);
         }
         Validated::Refused(r) => {
             print_refusal(r);
@@ -144,12 +151,9 @@ pub fn list(image: &[u8]) -> Validated
 
 // What is printed of input that is longer than the listing takes: refusal 1.
 pub fn too_long() -> Refusal
-    ensures { λ r. ⌜ (r .number ≡ 1) × (r .position ≡ 0) ⌝ }
+    ensures { λ r. ⌜ r ≡ refusal 1 0 ⌝ }
 {
-    let r = Refusal {
-        number: 1,
-        position: 0,
-    };
+    let r = refusals::refuse(refusals::SIZE, 0);
     print_refusal(r);
     r
 }

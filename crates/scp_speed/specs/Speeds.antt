@@ -1,7 +1,6 @@
 -- Drive speed: "2,400,000,000 divided by the duration, one f64 division rounded once, both numbers first made floats without loss"
 -- (01, Flux and time).
 use Prim.Native.Nat.{ℕ}
-use mathlib.Core.Path.{_≡_}
 use mathlib.Core.Bool.{cond}
 use mathlib.Core.List.{List}
 use lib.Dec.{eqb}
@@ -36,7 +35,3 @@ unfoldable pub speedsOf : List ℕ → ℕ → SpeedRange
 speedsOf b e =
     cond (eqb (longest b e) 0) range.None
     (range.Speeds (record { slowest = rpmOf (longest b e); fastest = rpmOf (shortest b e) }))
-
--- "exactly 300.0 at 8,000,000".
-abbrev pub ThreeHundred : Type 0
-ThreeHundred = speedOf 8_000_000 ≡ Rpm (ofInt binary64 (pos 300))

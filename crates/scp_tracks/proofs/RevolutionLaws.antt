@@ -1,13 +1,14 @@
 -- A revolution is present where its number is below the image's, and its place is the exact sum.
 use Prim.Native.Nat.{ℕ, _+_, _<_, _≤_}
-use mathlib.Core.Path.{_≡_, refl, sym, ap}
+use mathlib.Core.Path.{_≡_, sym, ap, _∙_}
 use mathlib.Core.List.{List}
 use mathlib.Core.Bool.{true, or-true}
 use native.Mathlib.Omega.{arith}
-use borrow.Author.Tests.{lt-ltb, le-ltb, le-leb}
+use borrow.Author.Tests.{lt-ltb, le-ltb, le-leb, lt-leb}
+use Rattle.refusals.specs.Refusals.{refuseIf}
 use Rattle.scp_fields.specs.Header.{tableEnd, revolutions, dataEnd}
 use Rattle.scp_tracks.specs.Tracks.{offsetOf, headerSize, badMark, badTrack}
-use Rattle.scp_tracks.specs.Revolutions.{dataOf, revolutionOf}
+use Rattle.scp_tracks.specs.Revolutions.{dataOf, revolutionOf, ofPresence, revolutionFault}
 use Rattle.scp_tracks.specs.declared.FileOffset.{FileOffset}
 use Rattle.scp_tracks.specs.declared.RevolutionData.{RevolutionData}
 use Rattle.scp_tracks.specs.declared.Revolution.the-variants.{Absent, Present}
@@ -19,14 +20,15 @@ data-is {d} {d′} {w} {w′} {p} {n} e f g =
     let q : p ≡ record { 0 = n } = ap (λ (x : ℕ). record { 0 = x }) g in
     cc
 
+-- revolution k is absent or present, and so refused or not
 module _ (b : List ℕ) (e k : ℕ) where
-  pub absent : revolutions b ≤ k → Absent ≡ revolutionOf b e k
-  unfolding revolutionOf
-  absent h = sym (simp (le-ltb k (revolutions b) h))
+  pub absent : revolutions b ≤ k → (Absent ≡ revolutionOf b e k) × (ofPresence Absent ≡ revolutionFault b k)
+  unfolding revolutionOf refuseIf
+  absent h = (sym (simp (le-ltb k (revolutions b) h)), sym (simp (le-leb (revolutions b) k h)))
 
-  pub present : k < revolutions b → Present (dataOf b e k) ≡ revolutionOf b e k
-  unfolding revolutionOf
-  present h = sym (simp (lt-ltb k (revolutions b) h))
+  pub present : {d : RevolutionData} → d ≡ dataOf b e k → k < revolutions b → (Present d ≡ revolutionOf b e k) × (ofPresence (Present d) ≡ revolutionFault b k)
+  unfolding revolutionOf refuseIf
+  present q h = (ap Present q ∙ sym (simp (lt-ltb k (revolutions b) h)), sym (simp (lt-leb (revolutions b) k h)))
 
 -- ---- a track data header at e, of track t
 

@@ -2,7 +2,9 @@
 use Prim.Native.Nat.{ℕ}
 use mathlib.Core.List.{List}
 use mathlib.Core.Bool.{cond}
-use lib.Dec.{ltb}
+use lib.Dec.{ltb, leb}
+use Rattle.refusals.specs.declared.Refusal.{Refusal}
+use Rattle.refusals.specs.Refusals.{none, refusal, refuseIf}
 use Rattle.scp_fields.specs.Header.{revolutions}
 use Rattle.scp_tracks.specs.Tracks.{durationAt, countAt, fluxAt}
 use Rattle.scp_tracks.specs.declared.RevolutionData.{RevolutionData}
@@ -16,3 +18,12 @@ dataOf b e k = record { duration = durationAt b e k; words = countAt b e k; plac
 -- Present where k is below the number of revolutions.
 unfoldable pub revolutionOf : List ℕ → ℕ → ℕ → Revolution
 revolutionOf b e k = cond (ltb k (revolutions b)) (Present (dataOf b e k)) Absent
+
+-- Number of each case: an absent revolution is refused with 14 at position 0, a present one by nothing (T-6, R-14).
+abbrev pub ofPresence : Revolution → Refusal
+ofPresence Absent = refusal 14 0
+ofPresence (Present d) = none
+
+-- 14 Revolution: the revolution asked for is not below the number of revolutions (R-14).
+abbrev pub revolutionFault : List ℕ → ℕ → Refusal
+revolutionFault b k = refuseIf (leb (revolutions b) k) (refusal 14 0) none

@@ -16,15 +16,15 @@ ghost use Rattle.scp_tracks.specs.Tracks.{
   badFlux,
   trackFaultAt,
 };
-ghost use Rattle.scp_tracks.specs.Revolutions.{dataOf, revolutionOf};
+ghost use Rattle.scp_tracks.specs.Revolutions.{dataOf, revolutionOf, ofPresence, revolutionFault};
 use refusals::Refusal;
 
 // ---- offsets
 
-// A place in the file.
+// A file offset (L-16).
 pub struct FileOffset(pub u64);
 
-// A distance from a track data header.
+// A distance from a track data header (L-16).
 pub struct HeaderOffset(pub u32);
 
 // Where a distance from the track data header at `header` lies in the file: the exact sum, or the largest number where 64 bits do not hold it.
@@ -93,6 +93,7 @@ pub fn revolution_data(image: &[u8], header: u32, k: u32) -> RevolutionData
     }
 }
 
+// A revolution: absent, which is refusal 14, or present with its numbers.
 pub enum Revolution {
     Absent,
     Present(RevolutionData),
@@ -100,7 +101,7 @@ pub enum Revolution {
 
 // Revolution k of the track data header at `header`: absent where the image has no more revolutions.
 pub fn revolution_at(image: &[u8], header: u32, k: u32) -> Revolution
-    ensures { λ r. ⌜ r ≡ revolutionOf (now (image .entry)) header k ⌝ }
+    ensures { λ r. ⌜ (r ≡ revolutionOf (now (image .entry)) header k) × (ofPresence r ≡ revolutionFault (now (image .entry)) k) ⌝ }
 {
     if scp_fields::revolutions(image) <= k as usize {
         return Revolution::Absent;

@@ -1,20 +1,24 @@
--- Every track number is at most 168, and the measure is what is left of them.
-use Prim.Native.Nat.{_≤_, _-_}
+-- The measure is what is left of the table.
+use Prim.Native.Nat.{_-_}
+use Rattle.scp_fields.specs.Header.{trackSlots}
 use borrow.Author.Needs.{needs}
 use Rattle.scp_listing.proofs.count_tracks.Statement.{statement}
 use Rattle.scp_listing.proofs.count_tracks.Tie as tie
 
 abbrev Inv-loop : tie.InvT-loop
-Inv-loop image n₀ t₀ n t = t ≤ 168
+Inv-loop image n₀ t₀ n t = Unit {0}
 
 abbrev μ-loop : tie.MeasureT-loop
-μ-loop image n₀ t₀ n t = 168 - t
+μ-loop image n₀ t₀ n t = trackSlots - t
 
 loop-holds : tie.Need-loop-holds Inv-loop μ-loop
 loop-holds c = search needs
 
-revolutions-of-requires : tie.Need-revolutions-of-requires Inv-loop μ-loop
-revolutions-of-requires c κs = search needs
+cast-track-entry : tie.Need-cast-track-entry Inv-loop μ-loop
+cast-track-entry c = search needs
+
+track-entry-requires : tie.Need-track-entry-requires Inv-loop μ-loop
+track-entry-requires c κs = search needs
 
 wrapping-add-u64-requires : tie.Need-wrapping-add-u64-requires Inv-loop μ-loop
 wrapping-add-u64-requires c κs = search needs
@@ -38,7 +42,8 @@ count-tracks-spec =
     Inv-loop
     μ-loop
     loop-holds
-    revolutions-of-requires
+    cast-track-entry
+    track-entry-requires
     wrapping-add-u64-requires
     add-t
     loop-less

@@ -11,8 +11,8 @@ validate-requires c κs = search needs
 enum-told : tie.Need-enum-told
 enum-told c = search needs
 
-print-valid-requires : tie.Need-print-valid-requires
-print-valid-requires c κs = search needs
+print-image-requires : tie.Need-print-image-requires
+print-image-requires c κs = search needs
 
 enum-known-answer : tie.Need-enum-known-answer
 enum-known-answer c = search needs
@@ -34,7 +34,7 @@ list-spec =
     (tie.spec
     validate-requires
     enum-told
-    print-valid-requires
+    print-image-requires
     enum-known-answer
     print-refusal-requires
     returns

@@ -1,5 +1,5 @@
 -- Each return meets the tests before it, in the definition's order; each test is followed on by one law.
-use mathlib.Core.Path.{_≡_, sym, _∙_}
+use mathlib.Core.Path.{sym, _∙_}
 use borrow.Author.Tests.{eq-eqb, ne-eqb}
 use Rattle.scp_tracks.specs.Tracks.{trackFaultAt}
 use Rattle.refusals.proofs.Chain.{refuse-here, refuse-next}
