@@ -6,9 +6,11 @@ use Rattle.scp_sharing.specs.RewriteFault.{rewriteFault}
 use Rattle.scp_rewrite.specs.declared.Rewritten.{Rewritten}
 use Rattle.scp_rewrite.specs.declared.Rewritten.the-variants as rewritten
 
+-- The answer of each case.
 abbrev pub ofRewritten : Rewritten → Answer
 ofRewritten rewritten.Done = numbers []
 ofRewritten (rewritten.Refused r) = refused (r .number) (r .position)
 
+-- No values, unless it is refused.
 abbrev pub rewriteAnswer : List ℕ → ℕ → ℕ → List ℕ → Answer
 rewriteAnswer b t k ws = unless (rewriteFault b t k ws) (numbers [])

@@ -28,6 +28,7 @@ movedSum b p = moved (storedSum b) (trueSum p) (trueSum b)
 unfoldable pub summed : List ℕ → List ℕ → List ℕ
 summed b p = cond (readWrite b) p (sets p 0x0C (leBytes 4 (movedSum b p)))
 
+-- The image that an accepted rewrite leaves.
 abbrev pub rewritten : List ℕ → ℕ → ℕ → ℕ → List ℕ → List ℕ
 rewritten b t k d ws = summed b (patched b (trackEntry b t) k d ws)
 

@@ -33,30 +33,35 @@ ownHeader b e k = between e (revolutionAt e k) ∷ between (revolutionAt e k + 8
 unfoldable pub headerClaims : List ℕ → ℕ → ℕ → ℕ → ℕ → List Extent
 headerClaims b t k u e = cond (eqb u t) (ownHeader b e k) (extent e (headerSize b) ∷ [])
 
--- "every other turn's flux": of revolution j of track u, whose header is at e; of all its revolutions.
+-- "every other turn's flux": of revolution j of track u, whose header is at e.
 unfoldable pub fluxClaim : List ℕ → ℕ → ℕ → ℕ → ℕ → ℕ → List Extent
 fluxClaim b t k u e j = cond (eqb u t && eqb j k) [] (fluxExtent b e j ∷ [])
 
+-- Of all its revolutions.
 abbrev pub fluxClaims : List ℕ → ℕ → ℕ → ℕ → ℕ → List Extent
 fluxClaims b t k u e = joined (fluxClaim b t k u e) 0 (revolutions b)
 
--- Track u, whose entry is e: nothing where it is 0; all tracks.
+-- Track u, whose entry is e: nothing where it is 0.
 unfoldable pub trackClaim : List ℕ → ℕ → ℕ → ℕ → ℕ → List Extent
 trackClaim b t k u e = cond (eqb e 0) [] (headerClaims b t k u e ++ fluxClaims b t k u e)
 
+-- Track u, by its entry of the table.
 abbrev pub trackClaimAt : List ℕ → ℕ → ℕ → ℕ → List Extent
 trackClaimAt b t k u = trackClaim b t k u (trackEntry b u)
 
+-- All tracks.
 abbrev pub trackClaims : List ℕ → ℕ → ℕ → List Extent
 trackClaims b t k = joined (trackClaimAt b t k) 0 trackSlots
 
--- "every present string with its length and zero": the string at offset o, nothing where it is 0; all strings.
+-- "every present string with its length and zero": the string at offset o, nothing where it is 0.
 unfoldable pub stringClaim : List ℕ → ℕ → List Extent
 stringClaim b o = cond (eqb o 0) [] (extent o (3 + le16At b o) ∷ [])
 
+-- String j, by its offset in the footer.
 abbrev pub stringClaimAt : List ℕ → ℕ → List Extent
 stringClaimAt b j = stringClaim b (stringEntry b j)
 
+-- All strings.
 abbrev pub stringClaims : List ℕ → List Extent
 stringClaims b = joined (stringClaimAt b) 0 stringSlots
 

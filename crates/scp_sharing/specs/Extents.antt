@@ -5,6 +5,7 @@ use mathlib.Core.Bool.{Bool, false, _&&_, _||_}
 use lib.Dec.{ltb}
 use Rattle.scp_sharing.specs.declared.Extent.{Extent}
 
+-- The extent of n bytes from s on.
 abbrev pub extent : ℕ → ℕ → Extent
 extent s n = record { start = s; size = n }
 
