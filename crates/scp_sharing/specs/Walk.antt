@@ -1,4 +1,5 @@
--- What the private functions of the walk over the claims ask for. No rule of 01 stands here.
+-- What the private functions of the walk over the claims ask for.
+-- No rule stands here.
 use Prim.Native.Nat.{ℕ, _+_, _<_, _≤_}
 use mathlib.Core.Logic.{_≢_}
 use mathlib.Core.List.{List}

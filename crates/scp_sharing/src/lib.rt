@@ -16,13 +16,13 @@ use scp_lookup::RevolutionAnswer;
 use scp_tracks::FileOffset;
 use scp_tracks::HeaderOffset;
 
-// An extent of the file (01: stretch).
+// An extent of the file (W-4).
 pub struct Extent {
     pub start: usize,
     pub size: usize,
 }
 
-// What a rewrite stands on: the bytes of duration and count, and the flux.
+// What a rewrite stands on: the bytes of duration and count, and the flux (W-2).
 pub struct Stand {
     pub numbers: Extent,
     pub flux: Extent,
@@ -53,7 +53,10 @@ fn meet(x: Extent, y: Extent) -> bool
 fn hits(s: Stand, x: Extent) -> bool
     ensures { λ r. ⌜ r ≡ hit s x ⌝ }
 {
-    meet(s.numbers, x) | meet(s.flux, x)
+    if meet(s.numbers, x) {
+        return true;
+    }
+    meet(s.flux, x)
 }
 
 // The bytes from one offset up to another.
@@ -115,7 +118,7 @@ fn stand_of(image: &[u8], e: u32, k: u32) -> Stand
     Stand { numbers, flux }
 }
 
-// ---- the walk over the claims: whether one is hit
+// ---- the walk over the claims (W-3): whether one is hit
 
 // The header of track u, at e: the rewrite's own but for the 8 bytes, another's whole.
 fn header_hit(image: &[u8], s: Stand, t: u32, k: u32, u: u32, e: u32) -> bool
@@ -240,7 +243,7 @@ fn claims_hit(image: &[u8], s: Stand, t: u32, k: u32) -> bool
 
 // ---- what refuses a rewrite
 
-// Whether a byte that the rewrite of revolution k of track t stands on is claimed twice.
+// Whether a byte that the rewrite of revolution k of track t stands on is claimed twice (W-5).
 fn is_shared(image: &[u8], s: Stand, t: u32, k: u32) -> bool
     requires { ⌜ Walkable (now image) k ⌝ }
     ensures { λ r. ⌜ r ≡ shared (now (image .entry)) s t k ⌝ }
@@ -270,7 +273,7 @@ fn words_fault(image: &[u8], t: u32, k: u32, words: u32, n: usize) -> Refusal
     refusals::pass()
 }
 
-// What refuses the rewrite: the first of refusals 1 to 11, 13, 14, 17 and 18, or number 0.
+// What refuses the rewrite: the first of refusals 1 to 11, 13, 14, 17 and 18, or number 0 (W-7).
 pub fn rewrite_fault(image: &[u8], track: u32, revolution: u32, words: &[u8]) -> Refusal
     ensures { λ r. ⌜ r ≡ rewriteFault (now (image .entry)) track revolution (now (words .entry)) ⌝ }
 {
