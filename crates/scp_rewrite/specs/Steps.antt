@@ -1,4 +1,5 @@
--- What the private functions ask of one another and leave behind. No rule of 01 stands here.
+-- What the private functions ask of one another and leave behind.
+-- No rule stands here.
 use Prim.Native.Nat.{ℕ, _+_, _%_, _≤_}
 use mathlib.Core.Path.{_≡_}
 use mathlib.Core.List.{List}

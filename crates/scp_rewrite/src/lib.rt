@@ -55,7 +55,7 @@ fn four_bytes(v: u32) -> [u8; 4]
     ]
 }
 
-// The checksum as it is stored, right or wrong: a rewrite moves it and never sums afresh.
+// The checksum as it is stored, right or wrong: a rewrite moves it and never sums afresh (W-11).
 fn stored_sum(image: &[u8]) -> u32
     requires { ⌜ tableEnd ≤ length (now image) ⌝ }
     ensures { λ r. ⌜ r ≡ storedSum (now (image .entry)) ⌝ }

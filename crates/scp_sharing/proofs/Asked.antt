@@ -5,6 +5,7 @@ use mathlib.Core.Path.{_≡_, refl, sym, ap, _∙_}
 use mathlib.Core.Logic.{_≢_}
 use mathlib.Core.List.{List}
 use mathlib.Core.Bool.{Bool, true, false, not}
+use native.Mathlib.Omega.{arith}
 use lib.ListN.{length}
 use lib.Dec.{eqb, leb}
 use borrow.Author.Tests.{lt-leb, leb-false}
@@ -20,6 +21,7 @@ use Rattle.scp_lookup.proofs.Asking.{there, then-rest}
 use Rattle.scp_lookup.proofs.FoundLaws.{RevolutionThere}
 use Rattle.scp_sharing.specs.RewriteFault.{wordsThenShared, rewriteFault}
 use Rattle.scp_sharing.specs.Sharing.{Present}
+use Rattle.scp_sharing.specs.Walk.{Inside}
 
 module _ (b : List ℕ) (t k : ℕ) (rest : Refusal) where
   pub question-first : revolutionQuestion b t k ≢ none → revolutionThen b t k rest ≡ revolutionQuestion b t k
@@ -41,6 +43,10 @@ module _ (b : List ℕ) (t k : ℕ) (rest : Refusal) where
   pub there-then : RevolutionThere b t k → revolutionThen b t k rest ≡ rest
   unfolding refuseIf
   there-then h = sym (then-rest b t _ (h .track)) ∙ simp (lt-leb (revolutions b) k (h .below))
+
+-- the header of each track that is there ends at or below E, so inside the image
+pub headers-inside : {b : List ℕ} → Opens b → (u : ℕ) → u < trackSlots → trackEntry b u ≢ 0 → Inside b (trackEntry b u)
+headers-inside o u h n = let below = o .tracks u h n .below in omega arith
 
 -- ---- what refuses a rewrite
 

@@ -1,4 +1,4 @@
--- What refuses a rewrite (01, Numbers of refusal and Rewriting).
+-- What refuses a rewrite (R-17, R-18, W-7).
 use Prim.Native.Nat.{ℕ, _*_}
 use mathlib.Core.List.{List}
 use mathlib.Core.Bool.{Bool, _||_}
@@ -12,16 +12,15 @@ use Rattle.scp_tracks.specs.Tracks.{countAt}
 use Rattle.scp_lookup.specs.Questions.{revolutionThen}
 use Rattle.scp_sharing.specs.Claims.{standAt, shared}
 
--- 17 Words, of n bytes for a revolution of `words` words: "flux given has an odd number of bytes or above 268,435,456, or new flux more
--- words than the turn has".
+-- R-17, W-1: n bytes for a revolution of `words` words are an odd number or too many, or more words than it has.
 abbrev pub badWords : ℕ → ℕ → Bool
 badWords words n = badFluxSize n || ltb (2 * words) n
 
--- 17, then 18, of the revolution of the track header at e.
+-- RO-6: 17, then 18, of revolution k of the track data header at e.
 unfoldable pub wordsThenShared : List ℕ → ℕ → ℕ → ℕ → ℕ → Refusal
 wordsThenShared b e t k n =
     refuseIf (badWords (countAt b e k) n) (refusal 17 0) (refuseIf (shared b (standAt b e k) t k) (refusal 18 0) none)
 
--- What refuses the rewrite: 1 to 11, 13, 14, 17, 18.
+-- W-7: what refuses the rewrite: 1 to 11, 13, 14, 17, 18.
 unfoldable pub rewriteFault : List ℕ → ℕ → ℕ → List ℕ → Refusal
 rewriteFault b t k ws = revolutionThen b t k (wordsThenShared b (trackEntry b t) t k (length ws))

@@ -1,23 +1,28 @@
 // What refuses a rewrite of one revolution of a SuperCard Pro image: the question of the revolution, the words, and the sharing test. It
 // opens the image anew, takes nobody's word, and walks once over the extents that others claim.
 ghost use mathlib.Core.Path.{_≡_};
+ghost use mathlib.Core.Logic.{_≢_};
 ghost use Prim.Native.Nat.{_+_, _<_, _≤_};
-ghost use lib.Dec.{ltb};
+ghost use lib.ListN.{length};
+ghost use Rattle.octets.specs.Numbers.{le32At};
 ghost use Rattle.scp_fields.specs.Header.{revolutions, trackEntry};
 ghost use Rattle.scp_tracks.specs.Tracks.{revolutionAt, countAt};
 ghost use Rattle.scp_sharing.specs.Extents.{between, meets, anyOf};
 ghost use Rattle.scp_sharing.specs.Claims.{fluxExtent, standAt, hit, headerClaims, fluxClaim, fluxClaims, trackClaim, trackClaims, stringClaim, stringClaims, footerClaims, claims, shared};
+ghost use Rattle.scp_sharing.specs.Walk.{Inside, Walkable};
 ghost use Rattle.scp_sharing.specs.RewriteFault.{badWords, wordsThenShared, rewriteFault};
 use refusals::Refusal;
 use scp_lookup::RevolutionAnswer;
+use scp_tracks::FileOffset;
+use scp_tracks::HeaderOffset;
 
-// An extent of the file (01: stretch).
+// An extent of the file (W-4).
 pub struct Extent {
     pub start: usize,
     pub size: usize,
 }
 
-// What a rewrite stands on: the bytes of duration and count, and the flux.
+// What a rewrite stands on: the bytes of duration and count, and the flux (W-2).
 pub struct Stand {
     pub numbers: Extent,
     pub flux: Extent,
@@ -26,30 +31,32 @@ pub struct Stand {
 // The bytes of duration and count.
 const NUMBERS_SIZE: usize = 8;
 
-// ---- extents
-
-// Whether an offset lies before the end of an extent.
-fn before_end(at: usize, x: Extent) -> bool
-    ensures { λ r. ⌜ r ≡ ltb at (x .start + x .size) ⌝ }
+fn wide(x: u8) -> u32
+    ensures { λ r. ⌜ (r ≡ x) × (r < 256) ⌝ }
 {
-    if at < x.start {
-        return true;
-    }
-    at - x.start < x.size
+    x as u32
 }
 
-// Whether two extents have a byte in common.
+// ---- extents
+
+// Whether two extents have a byte in common: the later one starts in the other, and is not empty. No sum is made that could wrap.
 fn meet(x: Extent, y: Extent) -> bool
     ensures { λ r. ⌜ r ≡ meets x y ⌝ }
 {
-    (before_end(x.start, y) & before_end(y.start, x)) & ((0 < x.size) & (0 < y.size))
+    if x.start < y.start {
+        return (y.start - x.start < x.size) & (0 < y.size);
+    }
+    (x.start - y.start < y.size) & (0 < x.size)
 }
 
 // Whether an extent has a byte that the rewrite stands on.
 fn hits(s: Stand, x: Extent) -> bool
     ensures { λ r. ⌜ r ≡ hit s x ⌝ }
 {
-    meet(s.numbers, x) | meet(s.flux, x)
+    if meet(s.numbers, x) {
+        return true;
+    }
+    meet(s.flux, x)
 }
 
 // The bytes from one offset up to another.
@@ -72,19 +79,35 @@ fn record_at(e: u32, k: u32) -> usize
     e as usize + scp_tracks::record_offset(k)
 }
 
+// The 32-bit number at an offset, where its four bytes are all there: the walk reads each track header, which opening found inside.
+fn inner32(image: &[u8], at: usize) -> u32
+    requires { ⌜ at + 4 ≤ length (now image) ⌝ }
+    ensures { λ r. ⌜ r ≡ le32At (now (image .entry)) at ⌝ }
+{
+    wide(image[at])
+        + 256 * wide(image[at + 1])
+        + 65_536 * wide(image[at + 2])
+        + 16_777_216 * wide(image[at + 3])
+}
+
 // The flux of revolution j of the track header at e.
 fn flux_extent(image: &[u8], e: u32, j: u32) -> Extent
+    requires { ⌜ revolutionAt e j + 12 ≤ length (now image) ⌝ }
     ensures { λ r. ⌜ r ≡ fluxExtent (now (image .entry)) e j ⌝ }
 {
-    let data = scp_tracks::revolution_data(image, e, j);
+    let at = record_at(e, j);
+    let words = inner32(image, at + 4);
+    let distance = inner32(image, at + 8);
+    let place = scp_tracks::file_offset(FileOffset(e as u64), HeaderOffset(distance));
     Extent {
-        start: data.place.0 as usize,
-        size: 2 * (data.words as usize),
+        start: place.0 as usize,
+        size: 2 * (words as usize),
     }
 }
 
 // What a rewrite of revolution k of the track header at e stands on.
 fn stand_of(image: &[u8], e: u32, k: u32) -> Stand
+    requires { ⌜ revolutionAt e k + 12 ≤ length (now image) ⌝ }
     ensures { λ r. ⌜ r ≡ standAt (now (image .entry)) e k ⌝ }
 {
     let numbers = Extent {
@@ -95,7 +118,7 @@ fn stand_of(image: &[u8], e: u32, k: u32) -> Stand
     Stand { numbers, flux }
 }
 
-// ---- the walk over the claims: whether one is hit
+// ---- the walk over the claims (W-3): whether one is hit
 
 // The header of track u, at e: the rewrite's own but for the 8 bytes, another's whole.
 fn header_hit(image: &[u8], s: Stand, t: u32, k: u32, u: u32, e: u32) -> bool
@@ -115,6 +138,7 @@ fn header_hit(image: &[u8], s: Stand, t: u32, k: u32, u: u32, e: u32) -> bool
 
 // The flux of revolution j of track u, whose header is at e; never the rewrite's own.
 fn flux_hit(image: &[u8], s: Stand, t: u32, k: u32, u: u32, e: u32, j: u32) -> bool
+    requires { ⌜ revolutionAt e j + 12 ≤ length (now image) ⌝ }
     ensures { λ r. ⌜ r ≡ anyOf (hit s) (fluxClaim (now (image .entry)) t k u e j) ⌝ }
 {
     if (u == t) & (j == k) {
@@ -125,6 +149,7 @@ fn flux_hit(image: &[u8], s: Stand, t: u32, k: u32, u: u32, e: u32, j: u32) -> b
 
 // The flux of the revolutions of track u, whose header is at e.
 fn fluxes_hit(image: &[u8], s: Stand, t: u32, k: u32, u: u32, e: u32) -> bool
+    requires { ⌜ Inside (now image) e ⌝ }
     ensures { λ r. ⌜ r ≡ anyOf (hit s) (fluxClaims (now (image .entry)) t k u e) ⌝ }
 {
     let n = scp_fields::revolutions(image) as u32;
@@ -140,7 +165,7 @@ fn fluxes_hit(image: &[u8], s: Stand, t: u32, k: u32, u: u32, e: u32) -> bool
 
 // Track u, by its entry of the table.
 fn track_hit(image: &[u8], s: Stand, t: u32, k: u32, u: u32, entry: u32) -> bool
-    requires { ⌜ k < revolutions (now image) ⌝ }
+    requires { ⌜ (k < revolutions (now image)) × (entry ≢ 0 → Inside (now image) entry) ⌝ }
     ensures { λ r. ⌜ r ≡ anyOf (hit s) (trackClaim (now (image .entry)) t k u entry) ⌝ }
 {
     if entry == 0 {
@@ -151,7 +176,7 @@ fn track_hit(image: &[u8], s: Stand, t: u32, k: u32, u: u32, entry: u32) -> bool
 
 // The tracks of the table.
 fn tracks_hit(image: &[u8], s: Stand, t: u32, k: u32) -> bool
-    requires { ⌜ k < revolutions (now image) ⌝ }
+    requires { ⌜ Walkable (now image) k ⌝ }
     ensures { λ r. ⌜ r ≡ anyOf (hit s) (trackClaims (now (image .entry)) t k) ⌝ }
 {
     let mut u: u32 = 0;
@@ -206,7 +231,7 @@ fn footer_hit(image: &[u8], s: Stand) -> bool
 
 // All claims.
 fn claims_hit(image: &[u8], s: Stand, t: u32, k: u32) -> bool
-    requires { ⌜ k < revolutions (now image) ⌝ }
+    requires { ⌜ Walkable (now image) k ⌝ }
     ensures { λ r. ⌜ r ≡ anyOf (hit s) (claims (now (image .entry)) t k) ⌝ }
 {
     let front = Extent {
@@ -218,9 +243,9 @@ fn claims_hit(image: &[u8], s: Stand, t: u32, k: u32) -> bool
 
 // ---- what refuses a rewrite
 
-// Whether a byte that the rewrite of revolution k of track t stands on is claimed twice.
+// Whether a byte that the rewrite of revolution k of track t stands on is claimed twice (W-5).
 fn is_shared(image: &[u8], s: Stand, t: u32, k: u32) -> bool
-    requires { ⌜ k < revolutions (now image) ⌝ }
+    requires { ⌜ Walkable (now image) k ⌝ }
     ensures { λ r. ⌜ r ≡ shared (now (image .entry)) s t k ⌝ }
 {
     meet(s.numbers, s.flux) | claims_hit(image, s, t, k)
@@ -235,7 +260,7 @@ fn bad_words(words: u32, n: usize) -> bool
 
 // What refuses n bytes of new flux for revolution k of track t, which has so many words: 17, then 18.
 fn words_fault(image: &[u8], t: u32, k: u32, words: u32, n: usize) -> Refusal
-    requires { ⌜ (k < revolutions (now image)) × (words ≡ countAt (now image) (trackEntry (now image) t) k) ⌝ }
+    requires { ⌜ Walkable (now image) k × Inside (now image) (trackEntry (now image) t) × (words ≡ countAt (now image) (trackEntry (now image) t) k) ⌝ }
     ensures { λ r. ⌜ r ≡ wordsThenShared (now (image .entry)) (trackEntry (now (image .entry)) t) t k n ⌝ }
 {
     if bad_words(words, n) {
@@ -248,7 +273,7 @@ fn words_fault(image: &[u8], t: u32, k: u32, words: u32, n: usize) -> Refusal
     refusals::pass()
 }
 
-// What refuses the rewrite: the first of refusals 1 to 11, 13, 14, 17 and 18, or number 0.
+// What refuses the rewrite: the first of refusals 1 to 11, 13, 14, 17 and 18, or number 0 (W-7).
 pub fn rewrite_fault(image: &[u8], track: u32, revolution: u32, words: &[u8]) -> Refusal
     ensures { λ r. ⌜ r ≡ rewriteFault (now (image .entry)) track revolution (now (words .entry)) ⌝ }
 {

@@ -2,8 +2,9 @@
 use mathlib.Core.Path.{sym, ap, _∙_}
 use borrow.Author.Needs.{needs}
 use Rattle.scp_tracks.specs.declared.RevolutionData.{RevolutionData}
+use Rattle.scp_open.proofs.Opens.{opens}
 use Rattle.scp_lookup.proofs.FoundLaws.{found-data, found-refused}
-use Rattle.scp_sharing.proofs.Asked.{fault-there, fault-refused}
+use Rattle.scp_sharing.proofs.Asked.{headers-inside, fault-there, fault-refused}
 use Rattle.scp_sharing.proofs.rewrite_fault.Statement.{statement}
 use Rattle.scp_sharing.proofs.rewrite_fault.Tie as tie
 
@@ -17,7 +18,12 @@ words-fault-requires : tie.Need-words-fault-requires
 words-fault-requires c κs =
     let at-data = c .before in
     let found = found-data _ _ _ (sym (at-data .«data» .given .1) ∙ at-data .before .before .find-revolution .ensures) in
-    (found .present .below, ap (λ (d : RevolutionData). d .words) (found .same))
+    let h = headers-inside (opens _ (found .present .track .opened)) in
+    let track = found .present .track in (
+      record { below = found .present .below; headers = h },
+      h _ (track .slot) (track .entry),
+      ap (λ (d : RevolutionData). d .words) (found .same),
+    )
 
 enum-known-refusal : tie.Need-enum-known-refusal
 enum-known-refusal c = search needs

@@ -12,7 +12,7 @@ header-hit-requires : tie.Need-header-hit-requires
 header-hit-requires c κs = search needs
 
 fluxes-hit-requires : tie.Need-fluxes-hit-requires
-fluxes-hit-requires c κs = search needs
+fluxes-hit-requires c κs = let past = c .before in past .before .before .pre .1 (past .if1 .left)
 
 returns-2 : tie.Need-returns-2
 returns-2 c =

@@ -1,6 +1,6 @@
 -- The loop's invariant: a track hit from track u on is one of all.
 use Prim.Native.Nat.{ℕ, _-_, _≤_}
-use mathlib.Core.Path.{_≡_, refl, sym, ap, _∙_}
+use mathlib.Core.Path.{_≡_, refl, sym, ap, subst⁻¹, _∙_}
 use mathlib.Core.List.{List}
 use mathlib.Core.Bool.{Bool}
 use borrow.Author.Needs.{needs}
@@ -9,6 +9,7 @@ use Rattle.refusals.proofs.Loops.{any-here, any-next, any-end}
 use Rattle.scp_fields.specs.Header.{trackSlots}
 use Rattle.scp_sharing.specs.Extents.{anyOf}
 use Rattle.scp_sharing.specs.Claims.{hit, trackClaim, trackClaimAt, trackClaims}
+use Rattle.scp_sharing.specs.Walk.{Inside}
 use Rattle.scp_sharing.specs.declared.Stand.{Stand}
 use Rattle.scp_sharing.proofs.ClaimLaws.{any-start}
 use Rattle.scp_sharing.proofs.tracks_hit.Statement.{statement}
@@ -36,7 +37,13 @@ track-entry-requires : tie.Need-track-entry-requires Inv-loop μ-loop
 track-entry-requires c κs = search needs
 
 track-hit-requires : tie.Need-track-hit-requires Inv-loop μ-loop
-track-hit-requires c κs = c .before .before .before .before .pre
+track-hit-requires c κs =
+    let at-entry = c in
+    let start = at-entry .before .before .before .before in
+    let entry = at-entry .track-entry .ensures in (
+      start .pre .below,
+      λ n. subst⁻¹ (Inside (start .args .image .now)) entry (start .pre .headers _ (search needs) (λ z. n (entry ∙ z))),
+    )
 
 -- the track of the entry that was read is track u
 found : (c : tie.After-track-hit Inv-loop μ-loop) → let at-loop = c .before .before .before in

@@ -23,7 +23,7 @@ few : (c : tie.After-bad-words) → let a = c .before .before .args in
 few c =
     let start = c .before .before in
     let n = start .args .n in
-    ap (λ (w : ℕ). badWords w n) (sym (start .pre .1)) ∙ sym (c .bad-words .ensures)
+    ap (λ (w : ℕ). badWords w n) (sym (start .pre .2)) ∙ sym (c .bad-words .ensures)
 
 returns : tie.Need-returns
 unfolding wordsThenShared
