@@ -11,7 +11,7 @@ use Rattle.refusals.specs.Refusals.{refuseIf}
 use Rattle.scp_fields.specs.Header.{tableEnd, revolutions, dataEnd}
 use Rattle.refusals.proofs.Finding.{neither}
 use Rattle.scp_tracks.specs.Tracks.{offsetOf, headerSize, badMark, badTrack}
-use Rattle.scp_tracks.specs.Revolutions.{dataOf, revolutionOf, ofPresence, revolutionFault}
+use Rattle.scp_tracks.specs.Revolutions.{recordOf, dataOf, revolutionOf, ofPresence, revolutionFault}
 use Rattle.scp_tracks.specs.declared.FileOffset.{FileOffset}
 use Rattle.scp_tracks.specs.declared.RevolutionData.{RevolutionData}
 use Rattle.scp_tracks.specs.declared.Revolution.the-variants.{Absent, Present}
@@ -24,6 +24,10 @@ data-is {d} {d′} {w} {w′} {p} {n} e f g =
     cc
 
 -- revolution k is absent or present, and so refused or not
+-- records with equal numbers
+pub record-same : (e : ℕ) {d d′ w w′ by by′ : ℕ} → d ≡ d′ → w ≡ w′ → by ≡ by′ → recordOf e d w by ≡ recordOf e d′ w′ by′
+record-same e f g h = data-is f g (ap (λ (x : ℕ). e + x) h)
+
 module _ (b : List ℕ) (e k : ℕ) where
   pub absent : revolutions b ≤ k → (Absent ≡ revolutionOf b e k) × (ofPresence Absent ≡ revolutionFault b k)
   unfolding revolutionOf refuseIf

@@ -18,7 +18,7 @@ ghost use Rattle.scp_tracks.specs.Tracks.{
   badFlux,
   trackFaultAt,
 };
-ghost use Rattle.scp_tracks.specs.Revolutions.{dataOf, revolutionOf, ofPresence, revolutionFault};
+ghost use Rattle.scp_tracks.specs.Revolutions.{recordOf, dataOf, revolutionOf, ofPresence, revolutionFault};
 use refusals::Refusal;
 
 // ---- offsets
@@ -101,6 +101,18 @@ fn inner32(image: &[u8], at: usize) -> u32
         + 16_777_216 * wide(image[at + 3])
 }
 
+// The numbers of a record of the track data header at `header`.
+fn record_of(header: u32, duration: u32, words: u32, distance: u32) -> RevolutionData
+    ensures { λ r. ⌜ (r ≡ recordOf header duration words distance) × (r .place .0 < 8_589_934_592) ⌝ }
+{
+    let place = file_offset(FileOffset(header as u64), HeaderOffset(distance));
+    RevolutionData {
+        duration,
+        words,
+        place,
+    }
+}
+
 // The record of revolution k of the track data header at `header`, where it lies inside the image: no further test of bounds.
 fn inner_record(image: &[u8], header: u32, k: u32) -> RevolutionData
     requires { ⌜ revolutionAt header k + 12 ≤ length (now image) ⌝ }
@@ -110,12 +122,7 @@ fn inner_record(image: &[u8], header: u32, k: u32) -> RevolutionData
     let duration = inner32(image, at);
     let words = inner32(image, at + 4);
     let distance = inner32(image, at + 8);
-    let place = file_offset(FileOffset(header as u64), HeaderOffset(distance));
-    RevolutionData {
-        duration,
-        words,
-        place,
-    }
+    record_of(header, duration, words, distance)
 }
 
 // The same where it does not: past the end a byte reads 0.
@@ -126,12 +133,7 @@ fn outer_record(image: &[u8], header: u32, k: u32) -> RevolutionData
     let duration = octets::le32(image, at);
     let words = octets::le32(image, at + 4);
     let distance = octets::le32(image, at + 8);
-    let place = file_offset(FileOffset(header as u64), HeaderOffset(distance));
-    RevolutionData {
-        duration,
-        words,
-        place,
-    }
+    record_of(header, duration, words, distance)
 }
 
 // The record of revolution k of the track data header at `header`: every reading of a record goes by it.
