@@ -45,17 +45,7 @@ pub extern "C" fn scp_header(image: &[u8], out: &mut [u64]) -> u64
     let found = scp::header(image);
     match found {
         HeaderAnswer::Found(h) => {
-            let row = [
-                h.version as u64,
-                h.disk as u64,
-                h.revolutions as u64,
-                h.start as u64,
-                h.end as u64,
-                h.flags as u64,
-                h.width as u64,
-                h.heads as u64,
-                h.checksum as u64,
-            ];
+            let row = scp_values::header_numbers(h);
             scp_boundary::give(out, &row)
         }
         HeaderAnswer::Refused(r) => scp_boundary::code(r),
@@ -71,7 +61,7 @@ pub extern "C" fn scp_footer(image: &[u8], out: &mut [u64]) -> u64
     let found = scp::footer(image);
     match found {
         FooterAnswer::Found(f) => {
-            let row = scp_rows::footer_numbers(f);
+            let row = scp_values::footer_numbers(f);
             scp_boundary::give(out, &row)
         }
         FooterAnswer::None => {
@@ -91,12 +81,7 @@ pub extern "C" fn scp_track(image: &[u8], track: u32, out: &mut [u64]) -> u64
     let found = scp::track(image, track);
     match found {
         TrackAnswer::Found(d) => {
-            let row = [
-                d.cylinder as u64,
-                d.head as u64,
-                d.place.0,
-                d.revolutions as u64,
-            ];
+            let row = scp_values::track_numbers(d);
             scp_boundary::give(out, &row)
         }
         TrackAnswer::Refused(r) => scp_boundary::code(r),
@@ -112,7 +97,7 @@ pub extern "C" fn scp_revolution(image: &[u8], track: u32, revolution: u32, out:
     let found = scp::revolution(image, track, revolution);
     match found {
         RevolutionAnswer::Found(d) => {
-            let row = [d.duration as u64, d.words as u64, d.place.0];
+            let row = scp_values::revolution_numbers(d);
             scp_boundary::give(out, &row)
         }
         RevolutionAnswer::Refused(r) => scp_boundary::code(r),
@@ -127,11 +112,7 @@ pub extern "C" fn scp_flux(image: &[u8], track: u32, revolution: u32, out: &mut 
 {
     let answer = scp::revolution(image, track, revolution);
     match answer {
-        RevolutionAnswer::Found(d) => {
-            let place = d.place;
-            let part = scp_rows::part_of(image, place.0 as usize, 2 * (d.words as usize));
-            scp_boundary::give_bytes(out, part)
-        }
+        RevolutionAnswer::Found(d) => scp_boundary::give_bytes(out, scp_values::flux_of(image, d)),
         RevolutionAnswer::Refused(r) => scp_boundary::code(r),
     }
 }

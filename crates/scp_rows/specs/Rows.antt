@@ -2,12 +2,11 @@
 use Prim.Native.Nat.{ℕ}
 use mathlib.Core.List.{List, [], _∷_, _++_, map}
 use mathlib.Core.Bool.{cond, not}
-use lib.ListN.{length, take, drop, replicate}
+use lib.ListN.{length, take, replicate}
 use lib.Dec.{T, eqb}
 use lib.Ieee.{Float, binary64, isNan, toBits}
 use Rattle.octets.specs.Numbers.{unsigned64}
 use Rattle.octets.specs.Sums.{byteSum}
-use Rattle.scp.specs.declared.FooterData.{FooterData}
 use Rattle.scp.specs.Answers.{Answer, refused, none, numbers, footer, speeds, bytes}
 use Rattle.scp_book.specs.Book as book
 use Rattle.scp_book.specs.Book.{Question}
@@ -23,10 +22,6 @@ questionOf kind t k =
     (cond (eqb kind 5) (book.flux t k)
     (cond (eqb kind 6) (book.speed t k)
     (cond (eqb kind 7) (book.trackSpeed t) book.validate))))))
-
--- n bytes from a start on: "a part that runs past" the end "is cut".
-abbrev pub part : List ℕ → ℕ → ℕ → List ℕ
-part b start n = take n (drop start b)
 
 -- ---- a row of 16 numbers: refusal number, position, the values, then zeros
 
@@ -48,12 +43,6 @@ rowOf (numbers vs) = padded (0 ∷ 0 ∷ vs)
 rowOf (footer offsets times versions) = padded (0 ∷ 0 ∷ 1 ∷ (offsets ++ (map unsigned64 times ++ versions)))
 rowOf (speeds xs) = padded (0 ∷ 0 ∷ 1 ∷ map (toBits binary64) xs)
 rowOf (bytes start b) = padded (0 ∷ 0 ∷ start ∷ length b ∷ byteSum b ∷ [])
-
--- The numbers of a footer.
-abbrev pub footerNumbers : FooterData → List ℕ
-footerNumbers f =
-    1 ∷ f .maker ∷ f .model ∷ f .serial ∷ f .creator ∷ f .application ∷ f .comments ∷ unsigned64 (f .created) ∷ unsigned64 (f .modified)
-    ∷ f .software ∷ f .hardware ∷ f .firmware ∷ f .format ∷ []
 
 -- Speeds that are numbers: only such have bit patterns of their own.
 abbrev pub AllReal : List Float → Type 0

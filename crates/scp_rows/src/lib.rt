@@ -4,10 +4,9 @@ ghost use lib.ListN.{replicate};
 ghost use Rattle.scp.specs.Answers.{refused, none, bytes, validateAnswer, headerAnswer, ofFooterData, footerAnswer, trackAnswer, revolutionAnswer, fluxAnswer, ofSpeedOnly, speedAnswer, trackSpeedAnswer};
 ghost use Rattle.scp_book.specs.Book.{asked};
 ghost use Rattle.copies.specs.Copying.{copiedAt};
-ghost use Rattle.scp_rows.specs.Rows.{questionOf, part, rowOf, footerNumbers, Real};
+ghost use Rattle.scp_rows.specs.Rows.{questionOf, rowOf, Real};
 use refusals::Refusal;
 use scp::FooterAnswer;
-use scp::FooterData;
 use scp::HeaderAnswer;
 use scp::SpeedAnswer;
 use scp::TrackAnswer;
@@ -51,24 +50,10 @@ pub fn plain_row() -> [u64; 16]
 pub fn refused_row(refusal: Refusal) -> [u64; 16]
     ensures { λ r. ⌜ r ≡ rowOf (refused (refusal .number) (refusal .position)) ⌝ }
 {
-    [
-        refusal.number as u64,
-        refusal.position,
-        0,
-        0,
-        0,
-        0,
-        0,
-        0,
-        0,
-        0,
-        0,
-        0,
-        0,
-        0,
-        0,
-        0,
-    ]
+    let mut row = [0; 16];
+    row[0] = refusal.number as u64;
+    row[1] = refusal.position;
+    row
 }
 
 // The row of validating.
@@ -88,44 +73,9 @@ fn header_row(image: &[u8]) -> [u64; 16]
 {
     let found = scp::header(image);
     match found {
-        HeaderAnswer::Found(h) => values_row(
-            &[
-                h.version as u64,
-                h.disk as u64,
-                h.revolutions as u64,
-                h.start as u64,
-                h.end as u64,
-                h.flags as u64,
-                h.width as u64,
-                h.heads as u64,
-                h.checksum as u64,
-            ],
-        ),
+        HeaderAnswer::Found(h) => values_row(&scp_values::header_numbers(h)),
         HeaderAnswer::Refused(r) => refused_row(r),
     }
-}
-
-// The numbers of a footer: 1, six offsets, two times, four version bytes.
-pub fn footer_numbers(f: FooterData) -> [u64; 13]
-    ensures { λ r. ⌜ r ≡ footerNumbers f ⌝ }
-{
-    let created = octets::unsigned(f.created);
-    let modified = octets::unsigned(f.modified);
-    [
-        1,
-        f.maker as u64,
-        f.model as u64,
-        f.serial as u64,
-        f.creator as u64,
-        f.application as u64,
-        f.comments as u64,
-        created,
-        modified,
-        f.software as u64,
-        f.hardware as u64,
-        f.firmware as u64,
-        f.format as u64,
-    ]
 }
 
 // The row of the footer.
@@ -134,7 +84,7 @@ fn footer_row(image: &[u8]) -> [u64; 16]
 {
     let found = scp::footer(image);
     match found {
-        FooterAnswer::Found(f) => values_row(&footer_numbers(f)),
+        FooterAnswer::Found(f) => values_row(&scp_values::footer_numbers(f)),
         FooterAnswer::None => plain_row(),
         FooterAnswer::Refused(r) => refused_row(r),
     }
@@ -146,14 +96,7 @@ fn track_row(image: &[u8], track: u32) -> [u64; 16]
 {
     let found = scp::track(image, track);
     match found {
-        TrackAnswer::Found(d) => values_row(
-            &[
-                d.cylinder as u64,
-                d.head as u64,
-                d.place.0,
-                d.revolutions as u64,
-            ],
-        ),
+        TrackAnswer::Found(d) => values_row(&scp_values::track_numbers(d)),
         TrackAnswer::Refused(r) => refused_row(r),
     }
 }
@@ -164,7 +107,7 @@ fn revolution_row(image: &[u8], track: u32, revolution: u32) -> [u64; 16]
 {
     let found = scp::revolution(image, track, revolution);
     match found {
-        RevolutionAnswer::Found(d) => values_row(&[d.duration as u64, d.words as u64, d.place.0]),
+        RevolutionAnswer::Found(d) => values_row(&scp_values::revolution_numbers(d)),
         RevolutionAnswer::Refused(r) => refused_row(r),
     }
 }
@@ -177,21 +120,6 @@ fn bytes_row(start: u64, part: &[u8]) -> [u64; 16]
     values_row(&[start, part.len() as u64, sum as u64])
 }
 
-// n bytes from a start on, cut where the bytes end.
-pub fn part_of(whole: &[u8], start: usize, n: usize) -> &[u8]
-    ensures { λ r. ⌜ now r ≡ part (now (whole .entry)) start n ⌝ }
-{
-    let size = whole.len();
-    if size <= start {
-        return &whole[..0];
-    }
-    if size - start <= n {
-        return &whole[start..];
-    }
-    let end = start + n;
-    &whole[start..end]
-}
-
 // The row of a revolution's flux.
 fn flux_row(image: &[u8], track: u32, revolution: u32) -> [u64; 16]
     ensures { λ r. ⌜ r ≡ rowOf (fluxAnswer (now (image .entry)) track revolution) ⌝ }
@@ -200,9 +128,7 @@ fn flux_row(image: &[u8], track: u32, revolution: u32) -> [u64; 16]
     match answer {
         RevolutionAnswer::Found(d) => {
             let place = d.place;
-            let start = place.0;
-            let size = 2 * (d.words as usize);
-            bytes_row(start, part_of(image, start as usize, size))
+            bytes_row(place.0, scp_values::flux_of(image, d))
         }
         RevolutionAnswer::Refused(r) => refused_row(r),
     }

@@ -6,7 +6,8 @@ use lib.ListN.{length, drop, getD}
 use lib.Dec.{eqb, leb}
 use Rattle.scp.specs.Answers.{Answer}
 use Rattle.scp_book.specs.Book.{Call, ask, rewrite}
-use Rattle.scp_rows.specs.Rows.{questionOf, part, rowOf}
+use Rattle.scp_values.specs.Values.{part}
+use Rattle.scp_rows.specs.Rows.{questionOf, rowOf}
 
 -- ---- a row of 6 numbers: kind, track, revolution, duration, and start and length of its words
 

@@ -1,7 +1,7 @@
 -- The revolution is found, and the part of the image that is its flux is put; or it is refused.
 use mathlib.Core.Path.{sym, ap, _∙_}
 use Rattle.scp.specs.Answers.{bytes, ofRevolution}
-use Rattle.scp_rows.proofs.RowLaws.{flux-found, flux-refused}
+use Rattle.scp_values.proofs.FoundFlux.{flux-found, flux-refused}
 use Rattle.scp_boundary.specs.Boundary.{numbersOf}
 use Rattle.scp_boundary.proofs.CodeAndBuffer.{pass-values, pass-refusal}
 use borrow.Author.Needs.{needs}
@@ -14,14 +14,8 @@ revolution-requires c κs = search needs
 enum-known-answer : tie.Need-enum-known-answer
 enum-known-answer c = search needs
 
-cast-part-of : tie.Need-cast-part-of
-cast-part-of c = search needs
-
-mul-part-of : tie.Need-mul-part-of
-mul-part-of c = search needs
-
-part-of-requires : tie.Need-part-of-requires
-part-of-requires c κs = search needs
+flux-of-requires : tie.Need-flux-of-requires
+flux-of-requires c κs = search needs
 
 give-bytes-requires : tie.Need-give-bytes-requires
 give-bytes-requires c κs = search needs
@@ -38,13 +32,13 @@ same-length c = search needs
 returns : tie.Need-returns
 returns c =
     let at-give = c .before .before in
-    let at-part = at-give .before .before in
-    let at-told = at-part .before .before .before .before in
+    let at-flux = at-give .before in
+    let at-told = at-flux .before .before .before in
     let at-call = at-told .before .before in
     let a = at-call .before .before .before .args in
     let found = ap ofRevolution (sym (at-told .answer .given .1)) ∙ at-call .revolution .ensures in
     let d = at-told .answer .given .0 .0 in
-    let told = ap (bytes (d .place .0)) (at-part .part-of .ensures) ∙ flux-found (a .image .now) (a .track) (a .revolution) d found in
+    let told = ap (bytes (d .place .0)) (at-flux .flux-of .ensures) ∙ flux-found (a .image .now) (a .track) (a .revolution) d found in
     pass-values (a .out .now) (ap numbersOf told) (at-give .give-bytes .ensures)
 
 returns-2 : tie.Need-returns-2
@@ -62,9 +56,7 @@ scp-flux-spec =
     (tie.spec
     revolution-requires
     enum-known-answer
-    cast-part-of
-    mul-part-of
-    part-of-requires
+    flux-of-requires
     give-bytes-requires
     enum-known-answer-2
     code-requires

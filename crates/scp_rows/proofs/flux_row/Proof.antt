@@ -1,8 +1,8 @@
 -- The revolution is found or refused, and where it is found the part of the image is its flux.
 use mathlib.Core.Path.{sym, ap, _∙_}
 use Rattle.scp.specs.Answers.{bytes, ofRevolution}
+use Rattle.scp_values.proofs.FoundFlux.{flux-found, flux-refused}
 use Rattle.scp_rows.specs.Rows.{rowOf}
-use Rattle.scp_rows.proofs.RowLaws.{flux-found, flux-refused}
 use borrow.Author.Needs.{needs}
 use Rattle.scp_rows.proofs.flux_row.Statement.{statement}
 use Rattle.scp_rows.proofs.flux_row.Tie as tie
@@ -13,14 +13,8 @@ revolution-requires c κs = search needs
 enum-known-answer : tie.Need-enum-known-answer
 enum-known-answer c = search needs
 
-cast-size : tie.Need-cast-size
-cast-size c = search needs
-
-mul-size : tie.Need-mul-size
-mul-size c = search needs
-
-part-of-requires : tie.Need-part-of-requires
-part-of-requires c κs = search needs
+flux-of-requires : tie.Need-flux-of-requires
+flux-of-requires c κs = search needs
 
 bytes-row-requires : tie.Need-bytes-row-requires
 bytes-row-requires c κs = search needs
@@ -33,14 +27,14 @@ refused-row-requires c κs = search needs
 
 returns : tie.Need-returns
 returns c =
-    let at-part = c .before in
-    let at-told = at-part .before .before .before .before in
+    let at-flux = c .before in
+    let at-told = at-flux .before .before .before in
     let at-call = at-told .before .before in
     let a = at-call .before .before .args in
     let found = ap ofRevolution (sym (at-told .answer .given .1)) ∙ at-call .revolution .ensures in
     let d = at-told .answer .given .0 .0 in
     c .bytes-row .ensures
-    ∙ ap rowOf (ap (bytes (d .place .0)) (at-part .part-of .ensures) ∙ flux-found (a .image .now) (a .track) (a .revolution) d found)
+    ∙ ap rowOf (ap (bytes (d .place .0)) (at-flux .flux-of .ensures) ∙ flux-found (a .image .now) (a .track) (a .revolution) d found)
 
 returns-2 : tie.Need-returns-2
 returns-2 c =
@@ -56,9 +50,7 @@ flux-row-spec =
     (tie.spec
     revolution-requires
     enum-known-answer
-    cast-size
-    mul-size
-    part-of-requires
+    flux-of-requires
     bytes-row-requires
     enum-known-answer-2
     refused-row-requires

@@ -1,5 +1,7 @@
 -- The row is that of the answer which the call gives, in each of its cases.
 use mathlib.Core.Path.{sym, ap, _∙_}
+use lib.ListN.{replicate}
+use Rattle.copies.specs.Copying.{copiedAt}
 use Rattle.scp.specs.Answers.{ofHeader}
 use Rattle.scp_rows.specs.Rows.{rowOf}
 use borrow.Author.Needs.{needs}
@@ -12,32 +14,8 @@ header-requires c κs = search needs
 enum-known-found : tie.Need-enum-known-found
 enum-known-found c = search needs
 
-cast-t7 : tie.Need-cast-t7
-cast-t7 c = search needs
-
-cast-t8 : tie.Need-cast-t8
-cast-t8 c = search needs
-
-cast-t9 : tie.Need-cast-t9
-cast-t9 c = search needs
-
-cast-t10 : tie.Need-cast-t10
-cast-t10 c = search needs
-
-cast-t11 : tie.Need-cast-t11
-cast-t11 c = search needs
-
-cast-t12 : tie.Need-cast-t12
-cast-t12 c = search needs
-
-cast-t13 : tie.Need-cast-t13
-cast-t13 c = search needs
-
-cast-t14 : tie.Need-cast-t14
-cast-t14 c = search needs
-
-cast-t15 : tie.Need-cast-t15
-cast-t15 c = search needs
+header-numbers-requires : tie.Need-header-numbers-requires
+header-numbers-requires c κs = search needs
 
 slice-aggregate-values-row : tie.Need-slice-aggregate-values-row
 slice-aggregate-values-row c = search needs
@@ -53,9 +31,11 @@ refused-row-requires c κs = search needs
 
 returns : tie.Need-returns
 returns c =
-    let at-told = c .before .before .before .before .before .before .before .before .before .before .before .before in
+    let at-numbers = c .before .before in
+    let at-told = at-numbers .before .before in
     let at-call = at-told .before .before in
-    c .values-row .ensures ∙ ap rowOf (ap ofHeader (sym (at-told .found .given .1)) ∙ at-call .header .ensures)
+    c .values-row .ensures ∙ ap (copiedAt (replicate 16 0) 2) (at-numbers .header-numbers .ensures)
+    ∙ ap rowOf (ap ofHeader (sym (at-told .found .given .1)) ∙ at-call .header .ensures)
 
 returns-2 : tie.Need-returns-2
 returns-2 c =
@@ -69,15 +49,7 @@ header-row-spec =
     (tie.spec
     header-requires
     enum-known-found
-    cast-t7
-    cast-t8
-    cast-t9
-    cast-t10
-    cast-t11
-    cast-t12
-    cast-t13
-    cast-t14
-    cast-t15
+    header-numbers-requires
     slice-aggregate-values-row
     values-row-requires
     enum-known-found-2

@@ -1,5 +1,7 @@
 -- The row is that of the answer which the call gives, in each of its cases.
 use mathlib.Core.Path.{sym, ap, _∙_}
+use lib.ListN.{replicate}
+use Rattle.copies.specs.Copying.{copiedAt}
 use Rattle.scp.specs.Answers.{ofRevolution}
 use Rattle.scp_rows.specs.Rows.{rowOf}
 use borrow.Author.Needs.{needs}
@@ -12,11 +14,8 @@ revolution-requires c κs = search needs
 enum-known-found : tie.Need-enum-known-found
 enum-known-found c = search needs
 
-cast-t9 : tie.Need-cast-t9
-cast-t9 c = search needs
-
-cast-t10 : tie.Need-cast-t10
-cast-t10 c = search needs
+revolution-numbers-requires : tie.Need-revolution-numbers-requires
+revolution-numbers-requires c κs = search needs
 
 slice-aggregate-values-row : tie.Need-slice-aggregate-values-row
 slice-aggregate-values-row c = search needs
@@ -32,9 +31,11 @@ refused-row-requires c κs = search needs
 
 returns : tie.Need-returns
 returns c =
-    let at-told = c .before .before .before .before .before in
+    let at-numbers = c .before .before in
+    let at-told = at-numbers .before .before in
     let at-call = at-told .before .before in
-    c .values-row .ensures ∙ ap rowOf (ap ofRevolution (sym (at-told .found .given .1)) ∙ at-call .revolution .ensures)
+    c .values-row .ensures ∙ ap (copiedAt (replicate 16 0) 2) (at-numbers .revolution-numbers .ensures)
+    ∙ ap rowOf (ap ofRevolution (sym (at-told .found .given .1)) ∙ at-call .revolution .ensures)
 
 returns-2 : tie.Need-returns-2
 returns-2 c =
@@ -48,8 +49,7 @@ revolution-row-spec =
     (tie.spec
     revolution-requires
     enum-known-found
-    cast-t9
-    cast-t10
+    revolution-numbers-requires
     slice-aggregate-values-row
     values-row-requires
     enum-known-found-2

@@ -1,5 +1,7 @@
 -- The row is that of the answer which the call gives, in each of its cases.
 use mathlib.Core.Path.{sym, ap, _∙_}
+use lib.ListN.{replicate}
+use Rattle.copies.specs.Copying.{copiedAt}
 use Rattle.scp.specs.Answers.{ofTrack}
 use Rattle.scp_rows.specs.Rows.{rowOf}
 use borrow.Author.Needs.{needs}
@@ -12,14 +14,8 @@ track-requires c κs = search needs
 enum-known-found : tie.Need-enum-known-found
 enum-known-found c = search needs
 
-cast-t8 : tie.Need-cast-t8
-cast-t8 c = search needs
-
-cast-t9 : tie.Need-cast-t9
-cast-t9 c = search needs
-
-cast-t10 : tie.Need-cast-t10
-cast-t10 c = search needs
+track-numbers-requires : tie.Need-track-numbers-requires
+track-numbers-requires c κs = search needs
 
 slice-aggregate-values-row : tie.Need-slice-aggregate-values-row
 slice-aggregate-values-row c = search needs
@@ -35,9 +31,11 @@ refused-row-requires c κs = search needs
 
 returns : tie.Need-returns
 returns c =
-    let at-told = c .before .before .before .before .before .before in
+    let at-numbers = c .before .before in
+    let at-told = at-numbers .before .before in
     let at-call = at-told .before .before in
-    c .values-row .ensures ∙ ap rowOf (ap ofTrack (sym (at-told .found .given .1)) ∙ at-call .track .ensures)
+    c .values-row .ensures ∙ ap (copiedAt (replicate 16 0) 2) (at-numbers .track-numbers .ensures)
+    ∙ ap rowOf (ap ofTrack (sym (at-told .found .given .1)) ∙ at-call .track .ensures)
 
 returns-2 : tie.Need-returns-2
 returns-2 c =
@@ -51,9 +49,7 @@ track-row-spec =
     (tie.spec
     track-requires
     enum-known-found
-    cast-t8
-    cast-t9
-    cast-t10
+    track-numbers-requires
     slice-aggregate-values-row
     values-row-requires
     enum-known-found-2

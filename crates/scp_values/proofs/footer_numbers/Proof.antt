@@ -3,10 +3,10 @@ use mathlib.Core.Path.{ap, _∙_}
 use mir.Facts.{toZ-ofZ}
 use mir.Syntax.{w64}
 use Rattle.octets.specs.Numbers.{unsigned64}
-use Rattle.scp_rows.proofs.RowLaws.{footer-same}
+use Rattle.scp_values.proofs.FooterTimes.{footer-same}
 use borrow.Author.Needs.{needs}
-use Rattle.scp_rows.proofs.footer_numbers.Statement.{statement}
-use Rattle.scp_rows.proofs.footer_numbers.Tie as tie
+use Rattle.scp_values.proofs.footer_numbers.Statement.{statement}
+use Rattle.scp_values.proofs.footer_numbers.Tie as tie
 
 unsigned-requires : tie.Need-unsigned-requires
 unsigned-requires c κs = search needs

@@ -5,8 +5,8 @@ use native.Mathlib.Omega.{arith}
 use lib.ListN.{length, take, drop, drop-of-length-le, length-drop}
 use lib.Seq.{take-nil, take-all}
 use borrow.Author.Needs.{needs}
-use Rattle.scp_rows.proofs.part_of.Statement.{statement}
-use Rattle.scp_rows.proofs.part_of.Tie as tie
+use Rattle.scp_values.proofs.part_of.Statement.{statement}
+use Rattle.scp_values.proofs.part_of.Tie as tie
 
 slice-aggregate-result : tie.Need-slice-aggregate-result
 slice-aggregate-result c = search needs
