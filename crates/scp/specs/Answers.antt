@@ -41,14 +41,15 @@ use Rattle.scp.specs.declared.SpeedAnswer.the-variants as speed-answer
 use Rattle.scp.specs.declared.TrackSpeedAnswer.{TrackSpeedAnswer}
 use Rattle.scp.specs.declared.TrackSpeedAnswer.the-variants as track-speed-answer
 
--- An answer: a refusal's number and position; the plain fact that there is none; or values.
+-- An answer: a refusal's number and position; the plain fact that there is none; or values. Bytes are a part of the image: the file
+-- offset where it starts, and its bytes.
 pub data Answer : Type 0 where
   refused : ℕ → ℕ → Answer
   none : Answer
   numbers : List ℕ → Answer
   footer : List ℕ → List ℤ → List ℕ → Answer
   speeds : List Float → Answer
-  bytes : List ℕ → Answer
+  bytes : ℕ → List ℕ → Answer
 
 -- The answer a, unless f refuses.
 abbrev pub unless : Refusal → Answer → Answer
@@ -147,6 +148,10 @@ fluxPart b t k = partOf b (foundRevolution b t k)
 
 abbrev pub fluxStart : List ℕ → ℕ → ℕ → ℕ
 fluxStart b t k = startOf (foundRevolution b t k)
+
+-- Where the flux starts, and its bytes; "asking for the turn gives the number" where it is refused.
+abbrev pub fluxAnswer : List ℕ → ℕ → ℕ → Answer
+fluxAnswer b t k = unless (revolutionQuestion b t k) (bytes (fluxStart b t k) (fluxPart b t k))
 
 -- ---- speeds
 

@@ -1,3 +1,4 @@
 pub mod Rewriting
 pub mod Answering
 pub mod Steps
+pub mod OneRewrite

@@ -141,6 +141,7 @@ longest-is-greatest b e =
     record {
       bound = λ k l. h .bound k (omega arith) (omega arith);
       reached = λ p. let r = h .reached p in (r .index, omega arith, r .value);
+      none = h .empty;
     }
 
 pub shortest-is-least : Shortest

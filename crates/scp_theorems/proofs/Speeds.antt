@@ -3,10 +3,12 @@
 use Prim.Native.Nat.{ℕ, _*_, _<_, _≤_}
 use mathlib.Core.Path.{_≡_, refl, sym, ap, subst, _∙_}
 use mathlib.Core.List.{List}
-use mathlib.Core.Bool.{Bool, true, false}
+use mathlib.Core.Bool.{Bool, true, false, cond}
+use mathlib.Core.Logic.{_↔_}
 use native.Mathlib.Nat.{mul-one, mul-comm, mul-assoc, mul-left-comm, mul-pos}
 use native.Mathlib.Omega.{arith}
-use lib.Dec.{T, ltb→lt, le→leb}
+use native.Mathlib.Decide.{ℕ-discrete}
+use lib.Dec.{T, ltb→lt, le→leb, eqb}
 use lib.IntN.{pos}
 use lib.Ieee.{Float, nan, inf, fin, Format, binary64, div, ofInt, round, inFloat, le}
 use lib.Ieee.Exact.{HasValue}
@@ -14,13 +16,15 @@ use lib.Ieee.Back.{round-whole, unsigned-back}
 use lib.Ieee.Scale.{round-same}
 use lib.Ieee.Order.{round-mono}
 use lib.Ieee.Positive.{num, den, positive, den-pos, value→cross, positive-of-value}
-use borrow.Author.Tests.{ne-eqb}
+use borrow.Author.Tests.{ne-eqb, eq-eqb, eqb-true}
 use Rattle.octets.specs.Numbers.{Octets}
 use Rattle.octets.proofs.Numbers.{le-bound}
 use Rattle.scp_fields.specs.Header.{revolutions}
 use Rattle.scp_tracks.specs.Tracks.{durationAt, revolutionAt}
-use Rattle.scp_speed.specs.Speeds.{rpmOf, speedOf, longest, shortest}
-use Rattle.scp_theorems.specs.Theorems.{CastsExact, RoundedOnce, SlowestFastest, ThreeHundred}
+use Rattle.scp_speed.specs.Speeds.{rpmOf, speedOf, longest, shortest, speedsOf}
+use Rattle.scp_speed.specs.declared.TrackSpeeds.{TrackSpeeds}
+use Rattle.scp_speed.specs.declared.SpeedRange.the-variants as range
+use Rattle.scp_theorems.specs.Theorems.{CastsExact, RoundedOnce, SlowestFastest, NoSpeed, ThreeHundred}
 use Rattle.scp_theorems.proofs.Durations.{longest-is-greatest, shortest-is-least}
 
 -- ---- the casts
@@ -99,6 +103,30 @@ slowest-fastest b e k octets h p =
       slowest = no-faster (longest b e) (durationAt b e k) (omega arith) long (longest-fits b e octets (omega arith));
       fastest = no-faster (durationAt b e k) (shortest b e) (omega arith) short (fits b e octets k);
     }
+
+-- the longest is 0 exactly if all are
+longest-zero : (b : List ℕ) (e : ℕ) → (longest b e ≡ 0) ↔ ((k : ℕ) → k < revolutions b → durationAt b e k ≡ 0)
+longest-zero b e =
+    let long = longest-is-greatest b e in (
+      λ z k h. let l = long .bound k h in omega arith,
+      λ a.
+          elim (ℕ-discrete (revolutions b) 0) [
+            | yes z ↦ long .none z
+            | no p ↦ let r = long .reached (omega arith) in sym (r .2) ∙ a (r .0) (r .1)
+          ],
+    )
+
+-- speeds, or none where the test holds
+none-by : (x : Bool) (s : TrackSpeeds) → cond x range.None (range.Speeds s) ≡ range.None → x ≡ true
+none-by true s e = refl
+none-by false s e = let z : _≡_ {A = ℕ} 0 1 = cc in absurd (omega arith)
+
+pub no-speed : NoSpeed
+unfolding speedsOf
+no-speed b e = (
+  λ n. longest-zero b e .0 (eqb-true (longest b e) 0 (none-by (eqb (longest b e) 0) _ n)),
+  λ a. simp (eq-eqb (longest b e) 0 (longest-zero b e .1 a)),
+)
 
 -- ---- the worked example
 

@@ -39,14 +39,14 @@ track-number t = record { whole = omega arith; side = omega arith }
 
 module _ (b : List ℕ) (t k : ℕ) where
   -- an answer with numbers is not refused, and its second number is the count
-  counted : (duration words place : ℕ) → revolutionAnswer b t k ≡ numbers (duration ∷ words ∷ place ∷ [])
+  counted : (duration words offset : ℕ) → revolutionAnswer b t k ≡ numbers (duration ∷ words ∷ offset ∷ [])
       → (revolutionQuestion b t k .number ≡ 0) × (countAt b (trackEntry b t) k ≡ words)
   unfolding revolutionAnswer
-  counted duration words place e = go (passes (revolutionQuestion b t k)) refl e
+  counted duration words offset e = go (passes (revolutionQuestion b t k)) refl e
     where
       go : (x : Bool) → passes (revolutionQuestion b t k) ≡ x
           → cond x (numbers (durationAt b (trackEntry b t) k ∷ countAt b (trackEntry b t) k ∷ fluxAt b (trackEntry b t) k ∷ []))
-          (refused (revolutionQuestion b t k .number) (revolutionQuestion b t k .position)) ≡ numbers (duration ∷ words ∷ place ∷ [])
+          (refused (revolutionQuestion b t k .number) (revolutionQuestion b t k .position)) ≡ numbers (duration ∷ words ∷ offset ∷ [])
           → (revolutionQuestion b t k .number ≡ 0) × (countAt b (trackEntry b t) k ≡ words)
       go true q h = (eqb-true (revolutionQuestion b t k .number) 0 q, cc)
       go false q h = let z : _≡_ {A = ℕ} 0 1 = cc in absurd (omega arith)
@@ -63,8 +63,8 @@ module _ (b : List ℕ) (t k : ℕ) where
       ap (λ (s : List ℕ). length s) (ap (partOf b) (sym found)) ∙ flux-length (found-data b t k found)
 
 pub flux-is-counted : FluxIsCounted
-flux-is-counted b t k duration words place e =
-    let held = counted b t k duration words place e in
+flux-is-counted b t k duration words offset e =
+    let held = counted b t k duration words offset e in
     part-length b t k (held .0) ∙ ap (λ (n : ℕ). 2 * n) (held .1)
 
 -- ---- what refuses a revolution has a number up to 14

@@ -1,4 +1,4 @@
--- A revolution as it is handed out: "A turn is either absent or present with its duration, word count and place" (01, Flux and time).
+-- A revolution as it is handed out: absent, or present with its numbers; and what refuses it.
 use Prim.Native.Nat.{ℕ}
 use mathlib.Core.List.{List}
 use mathlib.Core.Bool.{cond}
@@ -11,11 +11,11 @@ use Rattle.scp_tracks.specs.declared.RevolutionData.{RevolutionData}
 use Rattle.scp_tracks.specs.declared.Revolution.{Revolution}
 use Rattle.scp_tracks.specs.declared.Revolution.the-variants.{Absent, Present}
 
--- The numbers of revolution k of the track header at e.
+-- The numbers of revolution k of the track data header at e: duration, count of words, file offset of its flux (T-6).
 abbrev pub dataOf : List ℕ → ℕ → ℕ → RevolutionData
 dataOf b e k = record { duration = durationAt b e k; words = countAt b e k; place = record { 0 = fluxAt b e k } }
 
--- Present where k is below the number of revolutions.
+-- Present where k is below the number of revolutions (T-6).
 unfoldable pub revolutionOf : List ℕ → ℕ → ℕ → Revolution
 revolutionOf b e k = cond (ltb k (revolutions b)) (Present (dataOf b e k)) Absent
 
