@@ -2,11 +2,14 @@
 use Prim.Native.Nat.{ℕ, _+_, _<_, _≤_}
 use mathlib.Core.Path.{_≡_, sym, ap, _∙_}
 use mathlib.Core.List.{List}
-use mathlib.Core.Bool.{true, or-true}
+use mathlib.Core.Bool.{true, false, or-true}
 use native.Mathlib.Omega.{arith}
-use borrow.Author.Tests.{lt-ltb, le-ltb, le-leb, lt-leb}
+use lib.ListN.{length}
+use lib.Dec.{ltb}
+use borrow.Author.Tests.{lt-ltb, le-ltb, le-leb, lt-leb, ltb-false}
 use Rattle.refusals.specs.Refusals.{refuseIf}
 use Rattle.scp_fields.specs.Header.{tableEnd, revolutions, dataEnd}
+use Rattle.refusals.proofs.Finding.{neither}
 use Rattle.scp_tracks.specs.Tracks.{offsetOf, headerSize, badMark, badTrack}
 use Rattle.scp_tracks.specs.Revolutions.{dataOf, revolutionOf, ofPresence, revolutionFault}
 use Rattle.scp_tracks.specs.declared.FileOffset.{FileOffset}
@@ -44,6 +47,14 @@ module _ (b : List ℕ) (e t : ℕ) where
   pub track-in : tableEnd ≤ e → e + headerSize b ≤ dataEnd b → badMark b e t ≡ badTrack b e t
   unfolding badTrack
   track-in l h = sym (simp (le-ltb _ _ l, le-ltb _ _ h))
+
+  -- one that is not bad lies inside the image
+  pub track-inside : badTrack b e t ≡ false → e + headerSize b ≤ length b
+  unfolding badTrack
+  track-inside h =
+      let past = neither (ltb (dataEnd b) (e + headerSize b)) _ (neither (ltb e tableEnd) _ h .1) .0 in
+      let below = ltb-false (dataEnd b) (e + headerSize b) past in
+      omega arith
 
 -- ---- offsets
 

@@ -3,11 +3,13 @@
 ghost use mathlib.Core.Path.{_≡_};
 ghost use Prim.Native.Nat.{_+_, _<_, _≤_};
 ghost use lib.ListN.{length};
+ghost use Rattle.octets.specs.Numbers.{le32At};
 ghost use Rattle.scp_tracks.specs.Tracks.{
   cylinderOf,
   headOf,
   offsetOf,
   recordOffset,
+  revolutionAt,
   headerSize,
   badSlot,
   badMark,
@@ -56,11 +58,16 @@ pub fn head(track: u32) -> u32
 
 // ---- the track data header and its records
 
+// The bytes of the mark with the track's number, and of a revolution's record.
+const MARK_SIZE: usize = 4;
+
+const RECORD_SIZE: usize = 12;
+
 // Where the record of revolution k stands in its track data header, behind the mark, the number and the records before it.
 pub fn record_offset(k: u32) -> usize
     ensures { λ r. ⌜ r ≡ recordOffset k ⌝ }
 {
-    4 + 12 * (k as usize)
+    MARK_SIZE + RECORD_SIZE * (k as usize)
 }
 
 // The bytes of a track data header.
@@ -77,8 +84,42 @@ pub struct RevolutionData {
     pub place: FileOffset,
 }
 
-// The record of revolution k of the track data header at `header`: every reading of a record goes by it.
-pub fn revolution_data(image: &[u8], header: u32, k: u32) -> RevolutionData
+fn wide(x: u8) -> u32
+    ensures { λ r. ⌜ (r ≡ x) × (r < 256) ⌝ }
+{
+    x as u32
+}
+
+// The 32-bit number at an offset, where its four bytes are all there.
+fn inner32(image: &[u8], at: usize) -> u32
+    requires { ⌜ at + 4 ≤ length (now image) ⌝ }
+    ensures { λ r. ⌜ r ≡ le32At (now (image .entry)) at ⌝ }
+{
+    wide(image[at])
+        + 256 * wide(image[at + 1])
+        + 65_536 * wide(image[at + 2])
+        + 16_777_216 * wide(image[at + 3])
+}
+
+// The record of revolution k of the track data header at `header`, where it lies inside the image: no further test of bounds.
+fn inner_record(image: &[u8], header: u32, k: u32) -> RevolutionData
+    requires { ⌜ revolutionAt header k + 12 ≤ length (now image) ⌝ }
+    ensures { λ r. ⌜ (r ≡ dataOf (now (image .entry)) header k) × (r .place .0 < 8_589_934_592) ⌝ }
+{
+    let at = header as usize + record_offset(k);
+    let duration = inner32(image, at);
+    let words = inner32(image, at + 4);
+    let distance = inner32(image, at + 8);
+    let place = file_offset(FileOffset(header as u64), HeaderOffset(distance));
+    RevolutionData {
+        duration,
+        words,
+        place,
+    }
+}
+
+// The same where it does not: past the end a byte reads 0.
+fn outer_record(image: &[u8], header: u32, k: u32) -> RevolutionData
     ensures { λ r. ⌜ (r ≡ dataOf (now (image .entry)) header k) × (r .place .0 < 8_589_934_592) ⌝ }
 {
     let at = header as usize + record_offset(k);
@@ -93,7 +134,17 @@ pub fn revolution_data(image: &[u8], header: u32, k: u32) -> RevolutionData
     }
 }
 
-// A revolution: absent, which is refusal 14, or present with its numbers.
+// The record of revolution k of the track data header at `header`: every reading of a record goes by it.
+pub fn revolution_data(image: &[u8], header: u32, k: u32) -> RevolutionData
+    ensures { λ r. ⌜ (r ≡ dataOf (now (image .entry)) header k) × (r .place .0 < 8_589_934_592) ⌝ }
+{
+    let end = header as usize + record_offset(k) + RECORD_SIZE;
+    if end <= image.len() {
+        return inner_record(image, header, k);
+    }
+    outer_record(image, header, k)
+}
+
 pub enum Revolution {
     Absent,
     Present(RevolutionData),
@@ -110,12 +161,6 @@ pub fn revolution_at(image: &[u8], header: u32, k: u32) -> Revolution
 }
 
 // ---- refusals 9 to 11
-
-fn wide(x: u8) -> u32
-    ensures { λ r. ⌜ (r ≡ x) × (r < 256) ⌝ }
-{
-    x as u32
-}
 
 // Whether a track lies outside the span or on a side that is not held.
 fn bad_slot(image: &[u8], t: u32) -> bool
@@ -153,14 +198,16 @@ fn bad_track(image: &[u8], e: usize, t: u32) -> bool
 
 // Whether the flux of revolution k of the track data header at e ends past the data.
 fn flux_past(image: &[u8], e: u32, k: u32) -> bool
+    requires { ⌜ revolutionAt e k + 12 ≤ length (now image) ⌝ }
     ensures { λ r. ⌜ r ≡ fluxPast (now (image .entry)) e k ⌝ }
 {
-    let data = revolution_data(image, e, k);
+    let data = inner_record(image, e, k);
     (scp_fields::data_end(image) as u64) < data.place.0 + 2 * (data.words as u64)
 }
 
 // Whether the flux of a revolution of the track data header at e ends past the data.
 fn bad_flux(image: &[u8], e: u32) -> bool
+    requires { ⌜ e + headerSize (now image) ≤ length (now image) ⌝ }
     ensures { λ r. ⌜ r ≡ badFlux (now (image .entry)) e ⌝ }
 {
     let n = scp_fields::revolutions(image) as u32;
