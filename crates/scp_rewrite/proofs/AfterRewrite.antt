@@ -1,28 +1,26 @@
 -- What one rewrite does, accepted or refused: the tests of its chain give what refuses it, and the frame of an accepted one gives what it
 -- sets and what it keeps.
 use Prim.Native.Nat.{ℕ, _<_}
-use mathlib.Core.Path.{_≡_, refl, sym, ap, _∙_}
-use mathlib.Core.Logic.{_↔_, _≢_}
+use mathlib.Core.Path.{_≡_, refl, ap, _∙_}
+use mathlib.Core.Logic.{_↔_}
 use mathlib.Core.List.{List}
-use mathlib.Core.Bool.{Bool, true, false, not, _&&_, cond, true≢false}
+use mathlib.Core.Bool.{Bool, true, false, _&&_, cond}
 use lib.ListN.{length}
-use lib.Dec.{eqb, leb}
-use Rattle.octets.specs.Numbers.{byteAt, Octets}
+use lib.Dec.{eqb}
+use Rattle.octets.specs.Numbers.{Octets}
 use Rattle.refusals.specs.declared.Refusal.{Refusal}
-use Rattle.refusals.specs.Refusals.{none, refusal, passes, refuseIf, firstOf}
-use Rattle.scp_fields.specs.Header.{trackSlots, revolutions, readWrite, trackEntry}
+use Rattle.refusals.specs.Refusals.{none, refusal, passes, refuseIf}
+use Rattle.scp_fields.specs.Header.{revolutions, trackEntry}
 use Rattle.scp_tracks.specs.Tracks.{countAt}
-use Rattle.scp_open.specs.Opening.{openFault}
 use Rattle.scp_open.specs.Validity.{Opens}
-use Rattle.scp_lookup.specs.Questions.{trackThen, revolutionThen, revolutionQuestion}
-use Rattle.scp_sharing.specs.Extents.{extent, In}
+use Rattle.scp_lookup.specs.Questions.{revolutionQuestion}
 use Rattle.scp_sharing.specs.Claims.{standAt, shared}
 use Rattle.scp_sharing.specs.Sharing.{Present, ClaimedTwice}
 use Rattle.scp_sharing.specs.RewriteFault.{badWords, wordsThenShared, rewriteFault}
 use Rattle.scp_rewrite.specs.Rewriting.{rewritten, afterRewrite}
-use Rattle.scp_rewrite.specs.OneRewrite.{Reading, reading, put, distance, Rewrites, EveryRewrite}
+use Rattle.scp_rewrite.specs.OneRewrite.{reading, put, Rewrites, EveryRewrite}
 use Rattle.scp_sharing.proofs.SharedBytes.{shared-exactly}
-use Rattle.scp_sharing.proofs.Asked.{asked, asked-rest}
+use Rattle.scp_sharing.proofs.Asked.{question-first, asked, asked-rest}
 use Rattle.scp_sharing.proofs.Accepted.{Accepted, accepted, shared-refused}
 use Rattle.scp_rewrite.proofs.Frame.{octets-kept, rewritten-size, rewritten-duration, rewritten-count, rewritten-words, rewritten-rest, sum-moved, sum-stays}
 use Rattle.scp_rewrite.proofs.Keeping.{same-readWrite, same-revolutions, same-entry, opens-kept, reading-kept}
@@ -30,23 +28,6 @@ use Rattle.scp_rewrite.proofs.Checksums.{distance-kept}
 use Rattle.scp_rewrite.proofs.Kept.{Kept, still}
 
 -- ---- what refuses it
-
--- What refuses the question refuses every call that asks it first.
-question-first : (b : List ℕ) (t k : ℕ) (rest : Refusal) → revolutionQuestion b t k ≢ none → revolutionThen b t k rest ≡ revolutionQuestion b t k
-unfolding trackThen firstOf refuseIf
-question-first b t k rest = by (passes (openFault b)) (leb trackSlots t) (eqb (trackEntry b t) 0) (leb (revolutions b) k)
-  where
-    asking : Bool → Bool → Bool → Bool → Refusal → Refusal
-    asking opens high absent beyond last =
-        refuseIf (not opens) (openFault b)
-        (refuseIf high (refusal 13 0) (refuseIf absent (refusal 13 0) (refuseIf beyond (refusal 14 0) last)))
-
-    by : (w x y z : Bool) → asking w x y z none ≢ none → asking w x y z rest ≡ asking w x y z none
-    by false x y z n = refl
-    by true true y z n = refl
-    by true false true z n = refl
-    by true false false true n = refl
-    by true false false false n = absurd (n refl)
 
 module _ (b : List ℕ) (t k : ℕ) (ws : List ℕ) (q : revolutionQuestion b t k ≡ none) where
   -- 17 and 18 then decide
