@@ -109,7 +109,7 @@ footerAnswer b = unless (openFault b) (cond (hasFooter b) (footerValues b) none)
 -- ---- a track
 
 abbrev pub ofTrack : TrackAnswer → Answer
-ofTrack (track-answer.Found d) = numbers (d .cylinder ∷ d .head ∷ d .place .0 ∷ d .revolutions ∷ [])
+ofTrack (track-answer.Found d) = numbers (d .cylinder ∷ d .head ∷ d .offset .0 ∷ d .revolutions ∷ [])
 ofTrack (track-answer.Refused r) = refused (r .number) (r .position)
 
 -- Cylinder, head, file offset of its header, revolutions.
@@ -119,10 +119,10 @@ trackAnswer b t = unless (trackQuestion b t) (numbers (cylinderOf t ∷ headOf t
 -- ---- a revolution
 
 abbrev pub ofRevolution : RevolutionAnswer → Answer
-ofRevolution (revolution-answer.Found d) = numbers (d .duration ∷ d .words ∷ d .place .0 ∷ [])
+ofRevolution (revolution-answer.Found d) = numbers (d .duration ∷ d .words ∷ d .offset .0 ∷ [])
 ofRevolution (revolution-answer.Refused r) = refused (r .number) (r .position)
 
--- Duration, count of words, place.
+-- Duration, count of words, offset.
 unfoldable pub revolutionAnswer : List ℕ → ℕ → ℕ → Answer
 revolutionAnswer b t k =
     unless (revolutionQuestion b t k)
@@ -132,7 +132,7 @@ revolutionAnswer b t k =
 
 -- The part of the image that is a revolution's flux.
 abbrev pub fluxOf : List ℕ → RevolutionData → List ℕ
-fluxOf b d = take (2 * d .words) (drop (d .place .0) b)
+fluxOf b d = take (2 * d .words) (drop (d .offset .0) b)
 
 -- "Its flux can also be had as that part of the caller's image. Where the turn is refused, its part is the empty one at offset 0".
 abbrev pub partOf : List ℕ → RevolutionAnswer → List ℕ
@@ -140,7 +140,7 @@ partOf b (revolution-answer.Found d) = fluxOf b d
 partOf b (revolution-answer.Refused r) = []
 
 abbrev pub startOf : RevolutionAnswer → ℕ
-startOf (revolution-answer.Found d) = d .place .0
+startOf (revolution-answer.Found d) = d .offset .0
 startOf (revolution-answer.Refused r) = 0
 
 abbrev pub fluxPart : List ℕ → ℕ → ℕ → List ℕ

@@ -55,7 +55,7 @@ pub enum FooterAnswer {
 pub struct TrackData {
     pub cylinder: u32,
     pub head: u32,
-    pub place: FileOffset,
+    pub offset: FileOffset,
     pub revolutions: u32,
 }
 
@@ -168,14 +168,14 @@ pub fn track(image: &[u8], track: u32) -> TrackAnswer
         Entry::At(entry) => TrackAnswer::Found(TrackData {
             cylinder: scp_tracks::cylinder(track),
             head: scp_tracks::head(track),
-            place: FileOffset(entry as u64),
+            offset: FileOffset(entry as u64),
             revolutions: scp_fields::revolutions(image) as u32,
         }),
         Entry::Refused(r) => TrackAnswer::Refused(r),
     }
 }
 
-// A revolution: duration, words, place.
+// A revolution: duration, words, offset.
 pub fn revolution(image: &[u8], track: u32, revolution: u32) -> RevolutionAnswer
     ensures { λ r. ⌜ ofRevolution r ≡ revolutionAnswer (now (image .entry)) track revolution ⌝ }
 {
@@ -184,12 +184,12 @@ pub fn revolution(image: &[u8], track: u32, revolution: u32) -> RevolutionAnswer
 
 // The flux of a revolution that lies in the image.
 fn part_of(image: &[u8], numbers: RevolutionData) -> &[u8]
-    requires { ⌜ numbers .place .0 + 2 * numbers .words ≤ length (now image) ⌝ }
+    requires { ⌜ numbers .offset .0 + 2 * numbers .words ≤ length (now image) ⌝ }
     ensures { λ r. ⌜ now r ≡ fluxOf (now (image .entry)) numbers ⌝ }
-    ensures { λ r. ⌜ r .ptr ≡ (image .entry .ptr .0, numbers .place .0 + image .entry .ptr .1) ⌝ }
+    ensures { λ r. ⌜ r .ptr ≡ (image .entry .ptr .0, numbers .offset .0 + image .entry .ptr .1) ⌝ }
 {
-    let place = numbers.place;
-    let start = place.0 as usize;
+    let offset = numbers.offset;
+    let start = offset.0 as usize;
     let end = start + 2 * (numbers.words as usize);
     &image[start..end]
 }

@@ -1,4 +1,4 @@
--- A call that fills a buffer and gives values is lent no place of the buffer where `out` is too short for the values. It refuses then
+-- A call that fills a buffer and gives values is lent no offset of the buffer where `out` is too short for the values. It refuses then
 -- as if it had been lent them all, and where `out` is long enough it is lent them all.
 use Prim.Native.Nat.{ℕ, suc, _<_, _≤_}
 use mathlib.Core.Path.{_≡_, refl, sym, ap, _∙_}

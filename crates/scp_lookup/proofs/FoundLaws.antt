@@ -163,11 +163,11 @@ module _ (b : List ℕ) (t k : ℕ) where
           record { refuses = e; number = λ z. eqb-false (revolutionQuestion b t k .number) 0 q (ap (λ (x : Refusal). x .number) (sym e) ∙ z) }
 
   -- its flux lies in the image
-  pub flux-within : {d : RevolutionData} → FoundData d → d .place .0 + 2 * d .words ≤ length b
+  pub flux-within : {d : RevolutionData} → FoundData d → d .offset .0 + 2 * d .words ≤ length b
   flux-within {d} h =
       let present = h .present .track in
       let track = opens b (present .opened) .tracks t (present .slot) (present .entry) in
-      let place = ap (λ (x : RevolutionData). x .place .0) (h .same) in
+      let offset = ap (λ (x : RevolutionData). x .offset .0) (h .same) in
       let words = ap (λ (x : RevolutionData). x .words) (h .same) in
       let within = track .flux k (h .present .below) in
       omega arith

@@ -112,8 +112,8 @@ module _ (b q : List ℕ) (t k d : ℕ) (ws : List ℕ) (a : Accepted b t k ws) 
   name-kept : (u : ℕ) → Present b u → Agree q b (trackEntry b u) 4
   name-kept u p i h m = header-byte u i p (omega arith) (λ e g. omega arith)
 
-  same-place : (u j : ℕ) → Present b u → j < revolutions b → fluxAt q (trackEntry b u) j ≡ fluxAt b (trackEntry b u) j
-  same-place u j p l =
+  same-offset : (u j : ℕ) → Present b u → j < revolutions b → fluxAt q (trackEntry b u) j ≡ fluxAt b (trackEntry b u) j
+  same-offset u j p l =
       ap (λ (n : ℕ). trackEntry b u + n)
       (le-same 4 q b (revolutionAt (trackEntry b u) j + 8) (λ i h m. header-byte u i p (omega arith) (λ e g. omega arith)))
 
@@ -157,7 +157,7 @@ module _ (b q : List ℕ) (t k d : ℕ) (ws : List ℕ) (a : Accepted b t k ws) 
         number = name (e + 3) (omega arith) (omega arith) ∙ h .number;
         flux = λ j m.
             let l : j < revolutions b = rw same-revolutions at m in
-            let place = same-place u j p l in
+            let offset = same-offset u j p l in
             let count = count-falls u j p l in
             let end = same-end in
             let before = h .flux j l in
@@ -194,14 +194,14 @@ module _ (b q : List ℕ) (t k d : ℕ) (ws : List ℕ) (a : Accepted b t k ws) 
       let room : fluxAt b e j + 2 * countAt b e j ≤ length b = omega (arith, h .flux j l) in
       let flux = part-same (2 * countAt b e j) q b (fluxAt b e j) (fluxAt b e j) (omega arith) room
       (λ i m. kept (fluxAt b e j + i) (omega arith) (otherFlux u j p l other (omega arith))) in
-      cc (same-entry u (p .0), same-duration u j p l other, same-count u j p l other, same-place u j p l, flux)
+      cc (same-entry u (p .0), same-duration u j p l other, same-count u j p l other, same-offset u j p l, flux)
 
   reading-own : reading q t k ≡ put (reading b t k) d ws
   unfolding reading
   reading-own =
       let p = a .asks .present in
       let two : 2 * (length ws / 2) ≡ length ws = let v = a .even in omega arith in
-      cc (same-entry t (p .0), f .duration, f .count, same-place t k p (a .asks .below), two, f .words)
+      cc (same-entry t (p .0), f .duration, f .count, same-offset t k p (a .asks .below), two, f .words)
 
   pub reading-kept : (u j : ℕ) → Present b u → j < revolutions b
       → reading q u j ≡ cond (eqb t u && eqb k j) (put (reading b u j) d ws) (reading b u j)

@@ -21,7 +21,7 @@ use Rattle.scp_sharing.specs.Sharing.{InNumbers, ClaimedTwice}
 pub record Reading : Type 0 where
   pub duration : ℕ
   pub count : ℕ
-  pub place : ℕ
+  pub offset : ℕ
   pub words : List ℕ
 
 -- How revolution k of track t reads in the bytes b.
@@ -30,13 +30,13 @@ reading b t k =
     record {
       duration = durationAt b (trackEntry b t) k;
       count = countAt b (trackEntry b t) k;
-      place = fluxAt b (trackEntry b t) k;
+      offset = fluxAt b (trackEntry b t) k;
       words = take (2 * countAt b (trackEntry b t) k) (drop (fluxAt b (trackEntry b t) k) b);
     }
 
 -- As a rewrite put it: "its duration, count and words are the rewrite's".
 abbrev pub put : Reading → ℕ → List ℕ → Reading
-put r d ws = record { duration = d; count = length ws / 2; place = r .place; words = ws }
+put r d ws = record { duration = d; count = length ws / 2; offset = r .offset; words = ws }
 
 -- ---- the checksum
 
@@ -46,7 +46,7 @@ distance b = (storedSum b + 4_294_967_296 - trueSum b) % 4_294_967_296
 
 -- ---- the rewrite
 
--- From b an accepted rewrite of revolution k of track t makes q: "duration, count and the first 2n bytes at its flux place" are the new
+-- From b an accepted rewrite of revolution k of track t makes q: "duration, count and the first 2n bytes at its flux offset" are the new
 -- ones, and "All other bytes stay" but the checksum's four.
 pub record Rewrites (b q : List ℕ) (t k d : ℕ) (ws : List ℕ) : Type 0 where
   pub size : length q ≡ length b

@@ -71,10 +71,10 @@ fn patch(image: &mut [u8], e: u32, k: u32, duration: u32, words: &[u8]) -> u32
 {
     let at = e as usize + scp_tracks::record_offset(k);
     let data = scp_tracks::revolution_data(image, e, k);
-    let place = data.place.0 as usize;
+    let offset = data.offset.0 as usize;
     let stored = stored_sum(image);
     let count = (words.len() / 2) as u32;
-    let worded = store(image, place, words, stored);
+    let worded = store(image, offset, words, stored);
     let timed = store(image, at, &four_bytes(duration), worded);
     store(image, at + 4, &four_bytes(count), timed)
 }

@@ -127,8 +127,8 @@ fn flux_row(image: &[u8], track: u32, revolution: u32) -> [u64; 16]
     let answer = scp::revolution(image, track, revolution);
     match answer {
         RevolutionAnswer::Found(d) => {
-            let place = d.place;
-            bytes_row(place.0, scp_values::flux_of(image, d))
+            let offset = d.offset;
+            bytes_row(offset.0, scp_values::flux_of(image, d))
         }
         RevolutionAnswer::Refused(r) => refused_row(r),
     }

@@ -98,9 +98,9 @@ fn flux_extent(image: &[u8], e: u32, j: u32) -> Extent
     let at = record_at(e, j);
     let words = inner32(image, at + 4);
     let distance = inner32(image, at + 8);
-    let place = scp_tracks::file_offset(FileOffset(e as u64), HeaderOffset(distance));
+    let offset = scp_tracks::file_offset(FileOffset(e as u64), HeaderOffset(distance));
     Extent {
-        start: place.0 as usize,
+        start: offset.0 as usize,
         size: 2 * (words as usize),
     }
 }

@@ -131,10 +131,10 @@ fn print_revolution(image: &[u8], t: u32, k: u32) {
     text(b":");
     match scp::revolution(image, t, k) {
         RevolutionAnswer::Found(d) => {
-            let place = d.place;
+            let offset = d.offset;
             number(d.duration as u64);
             number(d.words as u64);
-            number(place.0);
+            number(offset.0);
             text(b" flux");
             number(scp::flux(image, t, k).len() as u64);
             print_speed(image, t, k);
@@ -164,10 +164,10 @@ fn print_track(image: &[u8], t: u32) {
     text(b":");
     match scp::track(image, t) {
         TrackAnswer::Found(d) => {
-            let place = d.place;
+            let offset = d.offset;
             number(d.cylinder as u64);
             number(d.head as u64);
-            number(place.0);
+            number(offset.0);
             number(d.revolutions as u64);
             text(b"\n");
             print_speeds(image, t);

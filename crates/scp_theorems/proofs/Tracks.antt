@@ -54,8 +54,8 @@ module _ (b : List ℕ) (t k : ℕ) where
   flux-length : {d : RevolutionData} → FoundData b t k d → length (fluxOf b d) ≡ 2 * d .words
   flux-length {d} h =
       let within = flux-within b t k h in
-      let rest = length-drop (d .place .0) b in
-      length-take-le (2 * d .words) (drop (d .place .0) b) (omega arith)
+      let rest = length-drop (d .offset .0) b in
+      length-take-le (2 * d .words) (drop (d .offset .0) b) (omega arith)
 
   part-length : revolutionQuestion b t k .number ≡ 0 → length (fluxPart b t k) ≡ 2 * countAt b (trackEntry b t) k
   part-length z =

@@ -1,4 +1,4 @@
--- A revolution is present where its number is below the image's, and its place is the exact sum.
+-- A revolution is present where its number is below the image's, and its offset is the exact sum.
 use Prim.Native.Nat.{ℕ, _+_, _<_, _≤_}
 use mathlib.Core.Path.{_≡_, sym, ap, _∙_}
 use mathlib.Core.List.{List}
@@ -18,7 +18,7 @@ use Rattle.scp_tracks.specs.declared.Revolution.the-variants.{Absent, Pr
 
 -- a revolution's numbers, one by one
 pub data-is : {d d′ w w′ : ℕ} {p : FileOffset} {n : ℕ} → d ≡ d′ → w ≡ w′ → p .0 ≡ n
-    → _≡_ {A = RevolutionData} (record { duration = d; words = w; place = p }) (record { duration = d′; words = w′; place = record { 0 = n } })
+    → _≡_ {A = RevolutionData} (record { duration = d; words = w; offset = p }) (record { duration = d′; words = w′; offset = record { 0 = n } })
 data-is {d} {d′} {w} {w′} {p} {n} e f g =
     let q : p ≡ record { 0 = n } = ap (λ (x : ℕ). record { 0 = x }) g in
     cc

@@ -13,7 +13,7 @@ use Rattle.scp_tracks.specs.declared.Revolution.the-variants.{Absent, Pr
 
 -- T-6, L-16: the numbers of a record of the track data header at e: duration d, w words, and flux that starts `by` bytes from the header.
 abbrev pub recordOf : ℕ → ℕ → ℕ → ℕ → RevolutionData
-recordOf e d w by = record { duration = d; words = w; place = record { 0 = e + by } }
+recordOf e d w by = record { duration = d; words = w; offset = record { 0 = e + by } }
 
 -- The numbers of revolution k of the track data header at e: duration, count of words, file offset of its flux (T-6).
 abbrev pub dataOf : List ℕ → ℕ → ℕ → RevolutionData

@@ -81,7 +81,7 @@ pub fn header_size(image: &[u8]) -> usize
 pub struct RevolutionData {
     pub duration: u32,
     pub words: u32,
-    pub place: FileOffset,
+    pub offset: FileOffset,
 }
 
 fn wide(x: u8) -> u32
@@ -103,20 +103,20 @@ fn inner32(image: &[u8], at: usize) -> u32
 
 // The numbers of a record of the track data header at `header`.
 fn record_of(header: u32, duration: u32, words: u32, distance: u32) -> RevolutionData
-    ensures { λ r. ⌜ (r ≡ recordOf header duration words distance) × (r .place .0 < 8_589_934_592) ⌝ }
+    ensures { λ r. ⌜ (r ≡ recordOf header duration words distance) × (r .offset .0 < 8_589_934_592) ⌝ }
 {
-    let place = file_offset(FileOffset(header as u64), HeaderOffset(distance));
+    let offset = file_offset(FileOffset(header as u64), HeaderOffset(distance));
     RevolutionData {
         duration,
         words,
-        place,
+        offset,
     }
 }
 
 // The record of revolution k of the track data header at `header`, where it lies inside the image: no further test of bounds.
 fn inner_record(image: &[u8], header: u32, k: u32) -> RevolutionData
     requires { ⌜ revolutionAt header k + 12 ≤ length (now image) ⌝ }
-    ensures { λ r. ⌜ (r ≡ dataOf (now (image .entry)) header k) × (r .place .0 < 8_589_934_592) ⌝ }
+    ensures { λ r. ⌜ (r ≡ dataOf (now (image .entry)) header k) × (r .offset .0 < 8_589_934_592) ⌝ }
 {
     let at = header as usize + record_offset(k);
     let duration = inner32(image, at);
@@ -127,7 +127,7 @@ fn inner_record(image: &[u8], header: u32, k: u32) -> RevolutionData
 
 // The same where it does not: past the end a byte reads 0.
 fn outer_record(image: &[u8], header: u32, k: u32) -> RevolutionData
-    ensures { λ r. ⌜ (r ≡ dataOf (now (image .entry)) header k) × (r .place .0 < 8_589_934_592) ⌝ }
+    ensures { λ r. ⌜ (r ≡ dataOf (now (image .entry)) header k) × (r .offset .0 < 8_589_934_592) ⌝ }
 {
     let at = header as usize + record_offset(k);
     let duration = octets::le32(image, at);
@@ -138,7 +138,7 @@ fn outer_record(image: &[u8], header: u32, k: u32) -> RevolutionData
 
 // The record of revolution k of the track data header at `header`: every reading of a record goes by it.
 pub fn revolution_data(image: &[u8], header: u32, k: u32) -> RevolutionData
-    ensures { λ r. ⌜ (r ≡ dataOf (now (image .entry)) header k) × (r .place .0 < 8_589_934_592) ⌝ }
+    ensures { λ r. ⌜ (r ≡ dataOf (now (image .entry)) header k) × (r .offset .0 < 8_589_934_592) ⌝ }
 {
     let end = header as usize + record_offset(k) + RECORD_SIZE;
     if end <= image.len() {
@@ -204,7 +204,7 @@ fn flux_past(image: &[u8], e: u32, k: u32) -> bool
     ensures { λ r. ⌜ r ≡ fluxPast (now (image .entry)) e k ⌝ }
 {
     let data = inner_record(image, e, k);
-    (scp_fields::data_end(image) as u64) < data.place.0 + 2 * (data.words as u64)
+    (scp_fields::data_end(image) as u64) < data.offset.0 + 2 * (data.words as u64)
 }
 
 // Whether the flux of a revolution of the track data header at e ends past the data.

@@ -32,7 +32,7 @@ module _ (b : List ℕ) (t k : ℕ) where
       (refused (revolutionQuestion b t k .number) (revolutionQuestion b t k .position))
 
   found-by : (x : Bool) (d : RevolutionData) → ofRevolution (revolution-answer.Found d) ≡ revolutionBy x
-      → bytes (d .place .0) (fluxOf b d) ≡ fluxBy x
+      → bytes (d .offset .0) (fluxOf b d) ≡ fluxBy x
   found-by true d e = cc
   found-by false d e = let z : _≡_ {A = ℕ} 0 1 = cc in absurd (omega arith)
 
@@ -42,7 +42,7 @@ module _ (b : List ℕ) (t k : ℕ) where
   refused-by false r e = e
 
   pub flux-found : (d : RevolutionData) → ofRevolution (revolution-answer.Found d) ≡ revolutionAnswer b t k
-      → bytes (d .place .0) (fluxOf b d) ≡ fluxAnswer b t k
+      → bytes (d .offset .0) (fluxOf b d) ≡ fluxAnswer b t k
   unfolding revolutionAnswer foundRevolution
   flux-found d e = found-by (passes (revolutionQuestion b t k)) d e
 

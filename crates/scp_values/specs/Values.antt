@@ -15,11 +15,11 @@ footerNumbers f =
 
 -- Of a track: cylinder, head, file offset of its header, revolutions.
 abbrev pub trackNumbers : TrackData → List ℕ
-trackNumbers d = d .cylinder ∷ d .head ∷ d .place .0 ∷ d .revolutions ∷ []
+trackNumbers d = d .cylinder ∷ d .head ∷ d .offset .0 ∷ d .revolutions ∷ []
 
 -- Of a revolution: duration, count of words, file offset of its flux.
 abbrev pub revolutionNumbers : RevolutionData → List ℕ
-revolutionNumbers d = d .duration ∷ d .words ∷ d .place .0 ∷ []
+revolutionNumbers d = d .duration ∷ d .words ∷ d .offset .0 ∷ []
 
 -- n bytes from a start on: "a part that runs past" the end "is cut".
 abbrev pub part : List ℕ → ℕ → ℕ → List ℕ

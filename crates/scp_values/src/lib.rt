@@ -54,7 +54,7 @@ pub fn track_numbers(d: TrackData) -> [u64; 4]
     [
         d.cylinder as u64,
         d.head as u64,
-        d.place.0,
+        d.offset.0,
         d.revolutions as u64,
     ]
 }
@@ -63,7 +63,7 @@ pub fn track_numbers(d: TrackData) -> [u64; 4]
 pub fn revolution_numbers(d: RevolutionData) -> [u64; 3]
     ensures { λ r. ⌜ r ≡ revolutionNumbers d ⌝ }
 {
-    [d.duration as u64, d.words as u64, d.place.0]
+    [d.duration as u64, d.words as u64, d.offset.0]
 }
 
 // n bytes from a start on, cut where the bytes end.
@@ -85,6 +85,6 @@ pub fn part_of(whole: &[u8], start: usize, n: usize) -> &[u8]
 pub fn flux_of(image: &[u8], d: RevolutionData) -> &[u8]
     ensures { λ r. ⌜ now r ≡ fluxOf (now (image .entry)) d ⌝ }
 {
-    let place = d.place;
-    part_of(image, place.0 as usize, 2 * (d.words as usize))
+    let offset = d.offset;
+    part_of(image, offset.0 as usize, 2 * (d.words as usize))
 }

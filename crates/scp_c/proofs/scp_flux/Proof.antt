@@ -38,7 +38,7 @@ returns c =
     let a = at-call .before .before .before .args in
     let found = ap ofRevolution (sym (at-told .answer .given .1)) ∙ at-call .revolution .ensures in
     let d = at-told .answer .given .0 .0 in
-    let told = ap (bytes (d .place .0)) (at-flux .flux-of .ensures) ∙ flux-found (a .image .now) (a .track) (a .revolution) d found in
+    let told = ap (bytes (d .offset .0)) (at-flux .flux-of .ensures) ∙ flux-found (a .image .now) (a .track) (a .revolution) d found in
     pass-values (a .out .now) (ap numbersOf told) (at-give .give-bytes .ensures)
 
 returns-2 : tie.Need-returns-2

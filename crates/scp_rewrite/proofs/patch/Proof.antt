@@ -24,7 +24,7 @@ cast-count c = search needs
 
 store-requires : tie.Need-store-requires
 store-requires c κs =
-    let far = ap (λ (d : RevolutionData). d .place .0) (c .before .before .before .revolution-data .ensures .0) in
+    let far = ap (λ (d : RevolutionData). d .offset .0) (c .before .before .before .revolution-data .ensures .0) in
     search needs
 
 four-bytes-requires : tie.Need-four-bytes-requires
@@ -64,7 +64,7 @@ returns c =
     let start = at-record .before .before .before in
     let a = start .args in
     let here = ap (λ (i : ℕ). a .e + i) (at-record .record-offset .ensures) in
-    let far = ap (λ (d : RevolutionData). d .place .0) (at-data .revolution-data .ensures .0) in
+    let far = ap (λ (d : RevolutionData). d .offset .0) (at-data .revolution-data .ensures .0) in
     let time = at-time-bytes .four-bytes .ensures in
     let count = at-count-bytes .four-bytes2 .ensures in
     let first = at-words .store .ensures in

@@ -34,7 +34,7 @@ returns c =
     let found = ap ofRevolution (sym (at-told .answer .given .1)) ∙ at-call .revolution .ensures in
     let d = at-told .answer .given .0 .0 in
     c .bytes-row .ensures
-    ∙ ap rowOf (ap (bytes (d .place .0)) (at-flux .flux-of .ensures) ∙ flux-found (a .image .now) (a .track) (a .revolution) d found)
+    ∙ ap rowOf (ap (bytes (d .offset .0)) (at-flux .flux-of .ensures) ∙ flux-found (a .image .now) (a .track) (a .revolution) d found)
 
 returns-2 : tie.Need-returns-2
 returns-2 c =

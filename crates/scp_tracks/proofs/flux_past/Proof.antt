@@ -29,8 +29,8 @@ returns c =
     let at-data = at-end .before in
     let b = at-data .before .before .args .image .now in
     let d = at-data .inner-record .result in
-    ap (λ (x : ℕ). ltb x (d .place .0 + 2 * d .words)) (at-end .data-end .ensures)
-    ∙ ap (λ (y : RevolutionData). ltb (dataEnd b) (y .place .0 + 2 * y .words)) (at-data .inner-record .ensures .0)
+    ap (λ (x : ℕ). ltb x (d .offset .0 + 2 * d .words)) (at-end .data-end .ensures)
+    ∙ ap (λ (y : RevolutionData). ltb (dataEnd b) (y .offset .0 + 2 * y .words)) (at-data .inner-record .ensures .0)
 
 pub flux-past-spec : {M : Type 1} → statement M
 flux-past-spec =

@@ -12,8 +12,8 @@ file-offset-requires c κs = search needs
 returns : tie.Need-returns
 returns c =
     let start = c .before in
-    let place = c .file-offset .ensures ∙ exact-offset (start .args .header) (start .args .distance) (search needs) (search needs) in
-    (data-is refl refl place, omega (arith, place))
+    let offset = c .file-offset .ensures ∙ exact-offset (start .args .header) (start .args .distance) (search needs) (search needs) in
+    (data-is refl refl offset, omega (arith, offset))
 
 pub record-of-spec : {M : Type 1} → statement M
 record-of-spec = tie.close (tie.spec file-offset-requires returns)
