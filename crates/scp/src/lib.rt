@@ -88,7 +88,7 @@ fn wanted_sum(image: &[u8]) -> u32
     octets::byte_sum(&image[scp_fields::TABLE_AT..])
 }
 
-// Validates an image (01: judging): refusals 1 to 12.
+// Validates an image: refusals 1 to 12.
 pub fn validate(image: &[u8]) -> Validated
     ensures { λ r. ⌜ ofValidated r ≡ validateAnswer (now (image .entry)) ⌝ }
 {
@@ -175,7 +175,7 @@ pub fn track(image: &[u8], track: u32) -> TrackAnswer
     }
 }
 
-// A revolution: duration, words, offset.
+// A revolution: duration, words, file offset of its flux.
 pub fn revolution(image: &[u8], track: u32, revolution: u32) -> RevolutionAnswer
     ensures { λ r. ⌜ ofRevolution r ≡ revolutionAnswer (now (image .entry)) track revolution ⌝ }
 {

@@ -10,38 +10,38 @@ use Rattle.octets.specs.Numbers.{unsigned64}
 use Rattle.flux.specs.Answers as flux
 use Rattle.scp.specs.Answers.{Answer, refused, none, numbers, footer, speeds, bytes}
 
--- What a call gives: a refusal's number and position, or the values for `out`.
+-- C-1: what a call gives: a refusal's number and position, or the values for `out`.
 pub data Given (A : Type 0) : Type 0 where
   refuses : ℕ → ℕ → Given A
   gives : List A → Given A
 
 -- ---- what is returned
 
--- A refusal as one number: "the refusal's number + 256 x its position". The number is in the lowest byte, the position in the 56 bits
+-- C-1: a refusal as one number: its number + 256 x its position. The number is in the lowest byte, the position in the 56 bits
 -- above; no refusal of a call on an image is larger (`Uncut`).
 abbrev pub packed : ℕ → ℕ → ℕ
 packed number position = number % 256 + 256 * (position % 72_057_594_037_927_936)
 
--- "Each returns a u64: 0, or the refusal's number + 256 x its position."
+-- C-1: 0, or the refusal's number + 256 x its position.
 abbrev pub codeOf : {A : Type 0} → Given A → ℕ
 codeOf (refuses number position) = packed number position
 codeOf (gives vs) = 0
 
 -- ---- what is put to `out`
 
--- "`out` too short for the numbers named: 15, nothing written"; every other refusal comes before 15 (01, Numbers of refusal).
+-- C-3: 15 where `out` is too short for the values; every other refusal comes before it.
 abbrev pub within : {A : Type 0} → ℕ → Given A → Given A
 within places (refuses number position) = refuses number position
 within places (gives vs) = cond (ltb places (length vs)) (refuses 15 0) (gives vs)
 
--- The buffer after the call: the values at its start and its old contents beyond, or as it was.
+-- C-3: the buffer after the call: the values at its start and its old contents beyond, or as it was.
 abbrev pub outAfter : {A : Type 0} → List A → Given A → List A
 outAfter old (refuses number position) = old
 outAfter old (gives vs) = vs ++ drop (length vs) old
 
 -- ---- the values of an answer
 
--- As numbers. A footer: 1, six offsets, two times (two's complement), four version bytes, and 13 zeros where there is none. Bytes: as
+-- C-4 to C-9: as numbers. A footer: 1, six offsets, two times (two's complement), four version bytes, and 13 zeros where there is none. Bytes: as
 -- they are, without where they start. Speeds have no numbers here; they go by `floatsOf`.
 abbrev pub numbersOf : Answer → Given ℕ
 numbersOf (refused number position) = refuses number position
@@ -51,11 +51,11 @@ numbersOf (footer offsets times versions) = gives (1 ∷ (offsets ++ (map unsign
 numbersOf (speeds xs) = gives []
 numbersOf (bytes start b) = gives b
 
--- A whole number as an f64.
+-- C-10: a whole number as an f64.
 abbrev pub whole : ℕ → Float
 whole n = ofInt binary64 (pos n)
 
--- As n floats: 1.0 and the speeds, or zeros where there is none.
+-- C-10: as n floats: 1.0 and the speeds, or zeros where there is none.
 abbrev pub floatsOf : ℕ → Answer → Given Float
 floatsOf n (refused number position) = refuses number position
 floatsOf n none = gives (replicate n (whole 0))
@@ -66,20 +66,21 @@ floatsOf n (bytes start b) = gives []
 
 -- ---- flux, which stands in no image
 
--- A step as interval (0: none), open ticks, next word number: one that gives no interval has two values.
+-- C-11: a step as interval (0: none), open ticks, next word number: one that gives no interval has two values.
 abbrev pub three : List ℕ → List ℕ
 three vs = cond (eqb (length vs) 2) (0 ∷ vs) vs
 
+-- C-11: a step as three numbers.
 abbrev pub stepNumbers : flux.Answer → Given ℕ
 stepNumbers (flux.refused number position) = refuses number position
 stepNumbers (flux.gives vs) = gives (three vs)
 
--- An answer that fills a buffer has its values put to `out`, too: 15 where either is too short.
+-- C-12: an answer that fills a buffer has its values put to `out`, too: 15 where either is too short.
 abbrev pub both : ℕ → flux.Filling → flux.Filling
 both places (flux.refuses number position) = flux.refuses number position
 both places (flux.fills vs xs) = cond (ltb places (length vs)) (flux.refuses 15 0) (flux.fills vs xs)
 
--- What is put to `out`.
+-- C-12: what is put to `out`.
 abbrev pub valuesOf : flux.Filling → Given ℕ
 valuesOf (flux.refuses number position) = refuses number position
 valuesOf (flux.fills vs xs) = gives vs

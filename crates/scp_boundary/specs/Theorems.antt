@@ -6,12 +6,12 @@ use Rattle.scp.specs.Answers.{Answer, refused, none, numbers, footer, speeds, b
 use Rattle.scp_book.specs.Book.{Call, answer}
 use Rattle.scp_boundary.specs.Boundary.{packed}
 
--- "the refusal's number + 256 x its position": a number below 256 and a position below 2^56 are packed as they are.
+-- C-2: a number below 256 and a position below 2^56 are packed as they are.
 abbrev pub Exact : Type 0
 Exact =
     (number position : ℕ) → number < 256 → position < 72_057_594_037_927_936 → packed number position ≡ number + 256 * position
 
--- If it is a refusal, its code is its number + 256 x its position.
+-- C-2: if it is a refusal, its code is its number + 256 x its position.
 abbrev pub Whole : Answer → Type 0
 Whole (refused number position) = packed number position ≡ number + 256 * position
 Whole none = Unit {0}
@@ -20,6 +20,6 @@ Whole (footer offsets times versions) = Unit {0}
 Whole (speeds xs) = Unit {0}
 Whole (bytes start b) = Unit {0}
 
--- No refusal of a call on an image is cut.
+-- C-2: no refusal of a call on an image is cut.
 abbrev pub Uncut : Type 0
 Uncut = (b : List ℕ) (c : Call) → Whole (answer b c)

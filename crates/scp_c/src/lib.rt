@@ -235,7 +235,7 @@ pub extern "C" fn scp_rewrite(
     }
 }
 
-// Runs a list of calls on the image, 6 numbers each; 16 numbers a call to `answers`. Demand 3 holds of the whole sequence.
+// Runs a list of calls on the image, 6 numbers each; 16 numbers a call to `answers`. The claim S holds of the whole sequence.
 #[no_mangle]
 pub extern "C" fn scp_replay(
     image: &mut [u8],

@@ -11,8 +11,8 @@ use Rattle.scp.specs.Answers.{Answer, refused, none, numbers, footer, speeds, b
 use Rattle.scp_book.specs.Book as book
 use Rattle.scp_book.specs.Book.{Question}
 
--- The question of a kind: "0 validate, 1 header, 2 footer, 3 track, 4 revolution, 5 flux, 6 speed, 7 track speed", "another kind is a
--- validation".
+-- S-14: the question of a kind: 0 validate, 1 header, 2 footer, 3 track, 4 revolution, 5 flux, 6 speed, 7 track speed; another kind is a
+-- validation.
 unfoldable pub questionOf : ℕ → ℕ → ℕ → Question
 questionOf kind t k =
     cond (eqb kind 1) book.header
@@ -25,15 +25,15 @@ questionOf kind t k =
 
 -- ---- a row of 16 numbers: refusal number, position, the values, then zeros
 
--- How many numbers an answer has.
+-- S-16: how many numbers an answer has.
 abbrev pub answerSize : ℕ
 answerSize = 16
 
--- Numbers, with zeros behind them up to the size of an answer.
+-- S-16: numbers, with zeros behind them up to the size of an answer.
 abbrev pub padded : List ℕ → List ℕ
 padded vs = take answerSize (vs ++ replicate answerSize 0)
 
--- The row of an answer: the values as they are; a footer as 1, its offsets, its times as two's complement and its version bytes; speeds
+-- S-16, S-17: the row of an answer: the values as they are; a footer as 1, its offsets, its times as two's complement and its version bytes; speeds
 -- as 1 and the bit patterns of the floats; no footer and no speed as 0; bytes as the file offset of the first, how many they are, and
 -- their sum modulo 2^32.
 abbrev pub rowOf : Answer → List ℕ
@@ -44,12 +44,12 @@ rowOf (footer offsets times versions) = padded (0 ∷ 0 ∷ 1 ∷ (offsets ++ (m
 rowOf (speeds xs) = padded (0 ∷ 0 ∷ 1 ∷ map (toBits binary64) xs)
 rowOf (bytes start b) = padded (0 ∷ 0 ∷ start ∷ length b ∷ byteSum b ∷ [])
 
--- Speeds that are numbers: only such have bit patterns of their own.
+-- S-19: speeds that are numbers: only such have bit patterns of their own.
 abbrev pub AllReal : List Float → Type 0
 AllReal [] = Unit {0}
 AllReal (x ∷ xs) = T (not (isNan x)) × AllReal xs
 
--- An answer whose speeds are numbers.
+-- S-19: an answer whose speeds are numbers.
 abbrev pub Real : Answer → Type 0
 Real (speeds xs) = AllReal xs
 Real (refused number position) = Unit {0}

@@ -81,7 +81,7 @@ fn run_calls(image: &mut [u8], calls: &[u64], words: &[u8], answers: &mut [u64])
     }
 }
 
-// Runs the calls on the image, in order, and puts the row of each answer to the answers; demand 3 holds of the whole sequence.
+// Runs the calls on the image, in order, and puts the row of each answer to the answers; the claim S holds of the whole sequence.
 pub fn replay(image: &mut [u8], calls: &[u64], words: &[u8], answers: &mut [u64]) -> Replayed
     ensures { λ r. ⌜ ofReplayed r ≡ replayAnswer (now (calls .entry)) (length (now (answers .entry))) ⌝ }
     ensures { λ _. ⌜ Replays (now (image .entry)) (now (calls .entry)) (now (words .entry)) (now (answers .entry)) (now (image .exit)) (now (answers .exit)) ⌝ }
