@@ -34,12 +34,17 @@ def refused(number, position=0):
     return 'refused %d at %d' % (number, position)
 
 
-def held(values):
-    return ' |' + ''.join(' ' + v for v in values)
+def digest(values):
+    return '%d sum %d' % (len(values), sum(values))
 
 
-def read(title, flux, places):
-    flux, places = bytes(flux), list(places)
+def lent(places):
+    """What a buffer of so many places holds before a call."""
+    return list(range(7, 7 + places))
+
+
+def read(flux, places):
+    flux, places = bytes(flux), lent(places)
     if flux_refused(flux):
         said = refused(17)
     else:
@@ -49,12 +54,11 @@ def read(title, flux, places):
         else:
             places[:len(intervals)] = intervals
             said = 'filled %d open %d' % (len(intervals), open_time)
-    print(title + said + held(map(str, places)))
+    print('read', digest(flux), 'leaves', *places, said)
 
 
-def step(word, flux):
-    """Prints a step, and returns the next word, or None where there is no interval."""
-    flux, after = bytes(flux), None
+def step(flux, word):
+    flux = bytes(flux)
     if flux_refused(flux):
         said = refused(17)
     else:
@@ -63,16 +67,8 @@ def step(word, flux):
         if closing is None:
             said = 'open %d next %d' % (65536 * len(left), word)
         else:
-            after = word + closing + 1
-            said = 'interval %d open 0 next %d' % (65536 * closing + left[closing], after)
-    print('step from %d: %s' % (word, said))
-    return after
-
-
-def walk(flux):
-    word = 0
-    while word is not None:
-        word = step(word, flux)
+            said = 'interval %d open 0 next %d' % (65536 * closing + left[closing], word + closing + 1)
+    print('step', word, said)
 
 
 def flux_of(times):
@@ -88,8 +84,8 @@ def flux_of(times):
     return out
 
 
-def write(title, times, room, show=None):
-    """Prints the answer, and returns what the buffer then holds."""
+def write(times, room, show):
+    """Prints what is left in the room and the answer, and returns the room."""
     made, room = flux_of(times), bytearray(room)
     if isinstance(made, int):
         said = refused(16, made)
@@ -98,80 +94,58 @@ def write(title, times, room, show=None):
     else:
         room[:len(made)] = made
         said = 'bytes %d' % len(made)
-    print(title + said + (show or (lambda b: held('%02x' % v for v in b)))(room))
+    print('write', *times, 'leaves', *show(room), said)
     return room
 
 
-def write_long(title, times, room):
-    return write(title, times, room, lambda b: ' | length %d sum %d' % (len(b), sum(b)))
+def short(flux):
+    for n in range(7):
+        read(flux, n)
+        step(flux, n)
+    step(flux, LARGEST)
 
 
-def back(title, times, room, places):
-    flux = write_long(title, times, room)
-    read('back: ', flux, places)
+def long(flux):
+    for n in range(3):
+        read(flux, n)
     for word in 0, 65535, 65536:
-        step(word, flux)
+        step(flux, word)
+
+
+def times(*ticks):
+    for n in range(9):
+        write(ticks, lent(n), lambda b: ['%02x' % v for v in b])
+
+
+def back(ticks, room):
+    long(write(ticks, [0xAA] * room, lambda b: [digest(b)]))
 
 
 def main():
-    read('no flux, no places: ', [], [])
-    read('no flux, two places: ', [], [7, 8])
-    write('no times, no room: ', [], [])
-    write('no times, two bytes: ', [], [7, 8])
-    step(0, [])
-    step(LARGEST, [])
+    short(b'')
+    short(bytes.fromhex('00A00000000100F0'))
+    short(bytes.fromhex('000000001234000000000000'))
+    short([0, 1, 0, 2, 0])
+    short([1])
 
-    a = bytes.fromhex('00A00000000100F0')
-    read('A, two places: ', a, [7, 8])
-    read('A, three places: ', a, [7, 8, 9])
-    read('A, four places: ', a, [7, 8, 9, 10])
-    read('A, six places: ', a, [7, 8, 9, 10, 11, 12])
-    walk(a)
-    for word in 4, 5, LARGEST:
-        step(word, a)
-
-    s = bytes.fromhex('000000001234000000000000')
-    read('open at the end: ', s, [7, 8])
-    read('open at the end, no places: ', s, [])
-    walk(s)
-    for word in 1, 2, 3, 5, 6:
-        step(word, s)
-
-    s = [0, 1, 0, 2, 0]
-    read('five bytes: ', s, [7, 8, 9])
-    read('one byte, no places: ', [1], [])
-    for word in 0, 2, LARGEST:
-        step(word, s)
-
-    write('1: ', [1], [7, 8, 9])
-    write('65,535: ', [65535], [7, 8, 9])
-    write('0: ', [0], [7, 8, 9])
-    write('65,536: ', [65536], [7, 8, 9])
-    write('65,537: ', [65537], [7, 8, 9, 10, 11])
-    write('65,537, a byte too few: ', [65537], [7, 8, 9])
-    write('131,072 in the third place: ', [1, 2, 131072], range(7, 15))
-    write('4,294,967,296: ', [4294967296], [7, 8])
-    write('4,294,967,297: ', [4294967297], [7, 8])
-    write('the largest number: ', [LARGEST], [7, 8])
-    write('no room, and a bad time behind: ', [1, 65537, 0], [])
-    write('no room: ', [1, 65537], [])
-    write('three bytes for two words: ', [258, 772], [7, 8, 9])
-    write('four bytes for two words: ', [258, 772], [7, 8, 9, 10])
+    times()
+    times(258, 772)
+    times(1, 65537)
+    times(1, 65537, 0)
+    times(1, 2, 131072)
+    for t in 0, 1, 65535, 65536, 65537, 4294967296, 4294967297, LARGEST:
+        times(t)
 
     most = 4294967295
-    write_long('the longest time, a byte too few: ', [most], [0xAA] * 131071)
-    write_long('the longest time, two bytes more: ', [most], [0xAA] * 131074)
-    back('the longest time: ', [most], [0xAA] * 131072, [7, 8])
-    back('the longest time and 1: ', [most, 1], [0xAA] * 131074, [7, 8])
-    back('the longest time and 1, one place: ', [most, 1], [0xAA] * 131074, [7])
+    for room in 131071, 131072, 131074:
+        back([most], room)
+    for room in 131073, 131074:
+        back([most, 1], room)
 
-    s = bytearray(131072)
-    read('65,536 zero words, no places: ', s, [])
-    step(0, s)
-    step(65535, s)
-    s[-1] = 1
-    read('65,535 zero words and a one: ', s, [7])
-    step(0, s)
+    flux = bytearray(131072)
+    long(flux)
+    flux[-1] = 1
+    long(flux)
 
 
 main()

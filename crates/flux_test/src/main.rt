@@ -1,5 +1,7 @@
-// Runs the flux library on long zero runs, the largest times, empty inputs and buffers that are too short by one, and prints what it
-// answers and what the buffers then hold. `stdout` is written by tests/flux_expected.py, which shares nothing with this code.
+// Runs the flux library on long zero runs, the largest times, empty inputs and buffers that are too short by one. A line says what was read
+// or written, what the buffer then holds and what the library answers. `stdout` is written by tests/flux_expected.py, which shares nothing
+// with this code.
+ghost use Prim.Native.Nat.{_≤_};
 use flux::Cursor;
 use flux::Filled;
 use flux::Step;
@@ -10,279 +12,239 @@ fn text(s: &[u8]) {
     io::write_all(1, s);
 }
 
-fn wide(x: u8) -> u64 {
-    x as u64
+fn newline() {
+    text(b"\n");
 }
 
-// A space and a number.
-fn number(n: u64) {
-    text(b" ");
+// A name and a number.
+fn field(name: &[u8], n: u64) {
+    text(name);
     io::print_decimal(1, n);
 }
 
+// ---- what the library answers, to the end of the line
+
 fn refused(r: Refusal) {
-    text(b"refused");
-    number(r.number as u64);
-    text(b" at");
-    number(r.position);
-}
-
-// What the buffer holds.
-fn times(s: &[u64]) {
-    text(b" |");
-    let mut i = 0;
-    while i < s.len() {
-        number(s[i]);
-        i += 1;
-    }
-    text(b"\n");
-}
-
-fn bytes(s: &[u8]) {
-    text(b" |");
-    let mut i = 0;
-    while i < s.len() {
-        text(b" ");
-        io::print_hex(1, wide(s[i]), 2);
-        i += 1;
-    }
-    text(b"\n");
-}
-
-// A buffer that is too long to print: its length and its byte sum.
-fn long_bytes(s: &[u8]) {
-    text(b" | length");
-    number(s.len() as u64);
-    text(b" sum");
-    number(octets::byte_sum(s) as u64);
-    text(b"\n");
+    field(b" refused ", r.number as u64);
+    field(b" at ", r.position);
+    newline();
 }
 
 fn filled(f: Filled) {
     match f {
         Filled::Places { filled, open } => {
-            text(b"filled");
-            number(filled as u64);
-            text(b" open");
-            number(open);
+            field(b" filled ", filled as u64);
+            field(b" open ", open);
+            newline();
         }
-        Filled::Refused(r) => {
-            refused(r);
-        }
+        Filled::Refused(r) => refused(r),
     }
 }
 
 fn written(w: Written) {
     match w {
         Written::Bytes(n) => {
-            text(b"bytes");
-            number(n as u64);
+            field(b" bytes ", n as u64);
+            newline();
         }
-        Written::Refused(r) => {
-            refused(r);
-        }
+        Written::Refused(r) => refused(r),
     }
 }
 
-// The intervals of the flux at one go, and the times that it leaves.
-fn read(title: &[u8], flux: &[u8], places: &mut [u64]) {
-    text(title);
-    filled(flux::intervals(flux, places));
-    times(places);
+// The open time and the word to go on from.
+fn stepped_to(open: u64, next: Cursor) {
+    field(b" open ", open);
+    field(b" next ", next.word as u64);
+    newline();
 }
 
-// The words of the times, and the bytes that it leaves.
-fn write(title: &[u8], ticks: &[u64], room: &mut [u8]) {
-    text(title);
-    written(flux::words(ticks, room));
-    bytes(room);
-}
-
-// One step, on a line; the word to go on from, or the largest word number where there is no interval.
-fn step(word: usize, flux: &[u8]) -> usize {
-    text(b"step from");
-    number(word as u64);
-    text(b": ");
-    let mut after = usize::MAX;
-    let cursor = Cursor { word };
-    match cursor.step(flux) {
+fn stepped(s: Step) {
+    match s {
         Step::Interval { ticks, open, next } => {
-            text(b"interval");
-            number(ticks);
-            text(b" open");
-            number(open);
-            text(b" next");
-            number(next.word as u64);
-            after = next.word;
+            field(b" interval ", ticks);
+            stepped_to(open, next);
         }
-        Step::Open { open, next } => {
-            text(b"open");
-            number(open);
-            text(b" next");
-            number(next.word as u64);
-        }
-        Step::Refused(r) => {
-            refused(r);
-        }
-    }
-    text(b"\n");
-    after
-}
-
-// Steps from the first word until no interval is left.
-fn walk(flux: &[u8]) {
-    let mut word: usize = 0;
-    let mut left = flux.len();
-    while word < usize::MAX {
-        if left == 0 {
-            return;
-        }
-        left -= 1;
-        word = step(word, flux);
+        Step::Open { open, next } => stepped_to(open, next),
+        Step::Refused(r) => refused(r),
     }
 }
 
-// Empty inputs, into buffers with and without places.
-fn empty() {
-    read(b"no flux, no places: ", &[], &mut []);
-    read(b"no flux, two places: ", &[], &mut [7, 8]);
-    write(b"no times, no room: ", &[], &mut []);
-    write(b"no times, two bytes: ", &[], &mut [7, 8]);
-    step(0, &[]);
-    step(usize::MAX, &[]);
+// ---- what buffers hold
+
+fn numbers(name: &[u8], s: &[u64]) {
+    text(name);
+    let mut i = 0;
+    while i < s.len() {
+        field(b" ", s[i]);
+        i += 1;
+    }
 }
 
-// The flux of image A: places too few by one, just enough, and more than are filled.
-fn image_a() {
-    let a = [0x00, 0xA0, 0x00, 0x00, 0x00, 0x01, 0x00, 0xF0];
-    read(b"A, two places: ", &a, &mut [7, 8]);
-    read(b"A, three places: ", &a, &mut [7, 8, 9]);
-    read(b"A, four places: ", &a, &mut [7, 8, 9, 10]);
-    read(b"A, six places: ", &a, &mut [7, 8, 9, 10, 11, 12]);
-    walk(&a);
-    step(4, &a);
-    step(5, &a);
-    step(usize::MAX, &a);
+fn wide(x: u8) -> u64 {
+    x as u64
 }
 
-// Open time after the last closing word, and a cursor between zero words.
-fn open_time() {
-    let s = [0, 0, 0, 0, 0x12, 0x34, 0, 0, 0, 0, 0, 0];
-    read(b"open at the end: ", &s, &mut [7, 8]);
-    read(b"open at the end, no places: ", &s, &mut []);
-    walk(&s);
-    step(1, &s);
-    step(2, &s);
-    step(3, &s);
-    step(5, &s);
-    step(6, &s);
+fn bytes(name: &[u8], s: &[u8]) {
+    text(name);
+    let mut i = 0;
+    while i < s.len() {
+        text(b" ");
+        io::print_hex(1, wide(s[i]), 2);
+        i += 1;
+    }
 }
 
-// An odd number of bytes is refused before anything else is looked at.
-fn odd() {
-    let s = [0, 1, 0, 2, 0];
-    read(b"five bytes: ", &s, &mut [7, 8, 9]);
-    read(b"one byte, no places: ", &[1], &mut []);
-    step(0, &s);
-    step(2, &s);
-    step(usize::MAX, &s);
+// The length and the byte sum of what may be too long to print.
+fn digest(name: &[u8], s: &[u8]) {
+    field(name, s.len() as u64);
+    field(b" sum ", octets::byte_sum(s) as u64);
+}
+
+// ---- calls of the library
+
+// The intervals of the flux at one go, into so many places, which hold 7, 8, 9 .. before the call.
+fn read(flux: &[u8], places: usize)
+    requires { ⌜ places ≤ 6 ⌝ }
+{
+    let mut buffer = [7, 8, 9, 10, 11, 12];
+    let lent = &mut buffer[..places];
+    let answer = flux::intervals(flux, lent);
+    digest(b"read ", flux);
+    numbers(b" leaves", lent);
+    filled(answer);
+}
+
+// The words of the times, into so many bytes, which hold 7, 8, 9 .. before the call.
+fn write(ticks: &[u64], room: usize)
+    requires { ⌜ room ≤ 8 ⌝ }
+{
+    let mut buffer = [7, 8, 9, 10, 11, 12, 13, 14];
+    let lent = &mut buffer[..room];
+    let answer = flux::words(ticks, lent);
+    numbers(b"write", ticks);
+    bytes(b" leaves", lent);
+    written(answer);
+}
+
+// The next interval from a word on.
+fn step(flux: &[u8], word: usize) {
+    let cursor = Cursor { word };
+    let answer = cursor.step(flux);
+    field(b"step ", word as u64);
+    stepped(answer);
+}
+
+// ---- cases
+
+// Short flux, at one go into 0 to 6 places, and by a step from each of the words 0 to 6 and from the largest.
+fn short(flux: &[u8]) {
+    let mut n: usize = 0;
+    while n <= 6 {
+        read(flux, n);
+        step(flux, n);
+        n += 1;
+    }
+    step(flux, usize::MAX);
+}
+
+// Long flux, into too few places, enough and more, and by steps from the first word and about the last.
+fn long(flux: &[u8]) {
+    read(flux, 0);
+    read(flux, 1);
+    read(flux, 2);
+    step(flux, 0);
+    step(flux, 65_535);
+    step(flux, 65_536);
+}
+
+// The words of times, into 0 to 8 bytes.
+fn times(ticks: &[u64]) {
+    let mut n: usize = 0;
+    while n <= 8 {
+        write(ticks, n);
+        n += 1;
+    }
+}
+
+// The words of one time.
+fn time(t: u64) {
+    times(&[t]);
 }
 
 // Times at the edges of what can be expressed.
 fn edges() {
-    write(b"1: ", &[1], &mut [7, 8, 9]);
-    write(b"65,535: ", &[65_535], &mut [7, 8, 9]);
-    write(b"0: ", &[0], &mut [7, 8, 9]);
-    write(b"65,536: ", &[65_536], &mut [7, 8, 9]);
-    write(b"65,537: ", &[65_537], &mut [7, 8, 9, 10, 11]);
-    write(b"65,537, a byte too few: ", &[65_537], &mut [7, 8, 9]);
-    write(
-        b"131,072 in the third place: ",
-        &[1, 2, 131_072],
-        &mut [7, 8, 9, 10, 11, 12, 13, 14],
-    );
-    write(b"4,294,967,296: ", &[4_294_967_296], &mut [7, 8]);
-    write(b"4,294,967,297: ", &[4_294_967_297], &mut [7, 8]);
-    write(b"the largest number: ", &[u64::MAX], &mut [7, 8]);
-    write(
-        b"no room, and a bad time behind: ",
-        &[1, 65_537, 0],
-        &mut [],
-    );
-    write(b"no room: ", &[1, 65_537], &mut []);
-    write(b"three bytes for two words: ", &[258, 772], &mut [7, 8, 9]);
-    write(
-        b"four bytes for two words: ",
-        &[258, 772],
-        &mut [7, 8, 9, 10],
-    );
+    time(0);
+    time(1);
+    time(65_535);
+    time(65_536);
+    time(65_537);
+    time(4_294_967_296);
+    time(4_294_967_297);
+    time(u64::MAX);
 }
 
-// The words of times in a buffer that is too long to print.
-fn write_long(title: &[u8], ticks: &[u64], room: &mut [u8]) {
-    text(title);
-    written(flux::words(ticks, room));
-    long_bytes(room);
+// Bytes for the words of the longest time, and two more.
+fn buffer() -> [u8; 131_074] {
+    [0xAA; 131_074]
 }
 
-// The words of times, read back at one go and by steps.
-fn back(title: &[u8], ticks: &[u64], room: &mut [u8], places: &mut [u64]) {
-    write_long(title, ticks, room);
-    read(b"back: ", room, places);
-    step(0, room);
-    step(65_535, room);
-    step(65_536, room);
+// The words of times in so many bytes, and these bytes read back.
+fn back(ticks: &[u64], room: usize)
+    requires { ⌜ room ≤ 131_074 ⌝ }
+{
+    let mut buffer = buffer();
+    let lent = &mut buffer[..room];
+    let answer = flux::words(ticks, lent);
+    numbers(b"write", ticks);
+    digest(b" leaves ", lent);
+    written(answer);
+    long(lent);
 }
 
-// The largest time is 65,535 zero words and one more: a byte too few, more than enough, and back again.
-fn longest() {
-    write_long(
-        b"the longest time, a byte too few: ",
-        &[4_294_967_295],
-        &mut [0xAA; 131_071],
-    );
-    write_long(
-        b"the longest time, two bytes more: ",
-        &[4_294_967_295],
-        &mut [0xAA; 131_074],
-    );
-    back(
-        b"the longest time: ",
-        &[4_294_967_295],
-        &mut [0xAA; 131_072],
-        &mut [7, 8],
-    );
-    back(
-        b"the longest time and 1: ",
-        &[4_294_967_295, 1],
-        &mut [0xAA; 131_074],
-        &mut [7, 8],
-    );
-    back(
-        b"the longest time and 1, one place: ",
-        &[4_294_967_295, 1],
-        &mut [0xAA; 131_074],
-        &mut [7],
-    );
+// The largest time is 65,535 zero words and one more: a byte too few, just enough and more, alone and before another time.
+fn longest(one: &[u64], two: &[u64]) {
+    back(one, 131_071);
+    back(one, 131_072);
+    back(one, 131_074);
+    back(two, 131_073);
+    back(two, 131_074);
 }
 
-// Zero words alone are open time and no interval.
-fn zeros() {
-    let mut s = [0u8; 131_072];
-    read(b"65,536 zero words, no places: ", &s, &mut []);
-    step(0, &s);
-    step(65_535, &s);
-    s[131_071] = 1;
-    read(b"65,535 zero words and a one: ", &s, &mut [7]);
-    step(0, &s);
+// 65,536 zero words.
+fn zeros() -> [u8; 131_072] {
+    [0; 131_072]
+}
+
+// Zero words alone are open time and no interval; with a last word that is not zero they are one interval.
+fn long_zeros() {
+    let mut flux = zeros();
+    long(&flux);
+    flux[131_071] = 1;
+    long(&flux);
+}
+
+// No flux, the flux of image A, zero words before and after a word, and an odd number of bytes.
+fn short_flux() {
+    short(&[]);
+    short(&[0x00, 0xA0, 0x00, 0x00, 0x00, 0x01, 0x00, 0xF0]);
+    short(&[0, 0, 0, 0, 0x12, 0x34, 0, 0, 0, 0, 0, 0]);
+    short(&[0, 1, 0, 2, 0]);
+    short(&[1]);
+}
+
+// No times, several, and one that cannot be expressed behind others.
+fn short_times() {
+    times(&[]);
+    times(&[258, 772]);
+    times(&[1, 65_537]);
+    times(&[1, 65_537, 0]);
+    times(&[1, 2, 131_072]);
 }
 
 fn main() {
-    empty();
-    image_a();
-    open_time();
-    odd();
+    short_flux();
+    short_times();
     edges();
-    longest();
-    zeros();
+    longest(&[4_294_967_295], &[4_294_967_295, 1]);
+    long_zeros();
 }
