@@ -147,6 +147,7 @@ pub fn revolution_data(image: &[u8], header: u32, k: u32) -> RevolutionData
     outer_record(image, header, k)
 }
 
+// A revolution of a track: absent, or present with its numbers (T-6).
 pub enum Revolution {
     Absent,
     Present(RevolutionData),
