@@ -1,4 +1,4 @@
--- The examples that 01 marks with a star ("Marked * are proved"), in one table.
+-- The examples X-3 to X-7 in one table (X-2), which proofs/ proves.
 use Prim.Native.Nat.{ℕ}
 use mathlib.Core.Path.{_≡_}
 use mathlib.Core.List.{List, [], _∷_}
@@ -7,19 +7,20 @@ use Rattle.octets.specs.Sums.{byteSum}
 use Rattle.scp_tracks.specs.Tracks.{cylinderOf, headOf}
 use Rattle.flux.specs.Answers.{timeRefused, fills, refuses, reading, writing}
 
+-- X-2: an example: what is given, and what the rules say of it.
 pub data Example : Type 0 where
-  -- flux bytes, their intervals and their open time
+  -- X-3: flux bytes, their intervals and their open time
   reads : List ℕ → List ℕ → ℕ → Example
-  -- a time and the bytes of its words
+  -- X-4: a time and the bytes of its words
   writes : ℕ → List ℕ → Example
-  -- a time that is refused
+  -- X-5: a time that is refused
   refusesTime : ℕ → Example
-  -- bytes and their sum
+  -- X-7: bytes and their sum
   sums : List ℕ → ℕ → Example
-  -- a track number, its cylinder and its head
+  -- X-6: a track number, its cylinder and its head
   tracks : ℕ → ℕ → ℕ → Example
 
--- What an example says, in the definitions that the promises use: with just as many places as its answer takes, or with any number
+-- X-2: what an example says, in the definitions that the promises use: with just as many places as its answer takes, or with any number
 -- of places where it is refused.
 abbrev pub Says : Example → Type 0
 Says (reads s ts o) = reading s (length ts) ≡ fills (length ts ∷ o ∷ []) ts
@@ -28,11 +29,12 @@ Says (refusesTime t) = (places : ℕ) → writing (t ∷ []) places ≡ refuses 
 Says (sums s n) = byteSum s ≡ n
 Says (tracks t c h) = (cylinderOf t ≡ c) × (headOf t ≡ h)
 
--- Every example of a list holds.
+-- X-2: every example of a list holds.
 abbrev pub AllSay : List Example → Type 0
 AllSay [] = Unit {0}
 AllSay (e ∷ es) = Says e × AllSay es
 
+-- X-2: the table: flux (X-3), words of times (X-4), refused times (X-5), tracks (X-6), a sum (X-7).
 abbrev pub starred : List Example
 starred =
     reads [] [] 0

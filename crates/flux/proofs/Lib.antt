@@ -1,8 +1,5 @@
-pub mod AtWord
-pub mod AtTime
+pub mod WordLaws
+pub mod TimeLaws
 pub mod Wrote
-pub mod Answered
+pub mod AnswerLaws
 pub mod Counting
-pub mod Stepping
-pub mod RoundTrips
-pub mod Expressing

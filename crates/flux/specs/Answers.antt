@@ -1,4 +1,4 @@
--- What each public function answers, and what it leaves in the lent buffer (01, Numbers of refusal).
+-- What each public function answers (A-2 to A-5), and what it leaves in the lent buffer (RO-9, RO-10).
 use Prim.Native.Nat.{ℕ, zero, suc, _+_}
 use mathlib.Core.List.{List, [], _∷_, _++_}
 use mathlib.Core.Bool.{cond}
@@ -14,73 +14,75 @@ use Rattle.flux.specs.declared.Filled.the-variants as filled
 use Rattle.flux.specs.declared.Written.{Written}
 use Rattle.flux.specs.declared.Written.the-variants as written
 
--- The numbers of refusal that flux alone uses: 15 Places, 16 Time, 17 Words.
+-- R-15: the number of Places.
 abbrev pub placesRefused : ℕ
 placesRefused = 15
 
+-- R-16: the number of Time.
 abbrev pub timeRefused : ℕ
 timeRefused = 16
 
+-- R-17: the number of Words.
 abbrev pub wordsRefused : ℕ
 wordsRefused = 17
 
--- An answer: a refusal's number and position, or the values that are given.
+-- A-2: an answer: a refusal's number and position, or the values that are given.
 pub data Answer : Type 0 where
   refused : ℕ → ℕ → Answer
   gives : List ℕ → Answer
 
--- ---- a step of the cursor (01: the reader)
+-- ---- a step of the cursor (F-9, F-10)
 
--- Number and values of each case: interval, open time and next word; where there is no interval, open time and next word.
+-- A-3: number and values of each case: interval, open time and next word; where there is no interval, open time and next word.
 abbrev pub ofStep : Step → Answer
 ofStep (step.Interval t o n) = gives (t ∷ o ∷ n .word ∷ [])
 ofStep (step.Open o n) = gives (o ∷ n .word ∷ [])
 ofStep (step.Refused r) = refused (r .number) (r .position)
 
--- The cursor is at word `from`; p ticks are pending at word n, where the words ws are left. The first closing word gives the
--- interval, and the cursor after it; "where no closing word is left it hands itself on unchanged with the open time from there".
+-- F-9, F-10: the cursor is at word `from`; p ticks are pending at word n, where the words ws are left. The first closing word gives the
+-- interval, and the cursor just past it; where none is left, the open time, and the cursor unchanged.
 unfoldable pub stepFrom : ℕ → ℕ → ℕ → List ℕ → Answer
 stepFrom from p n [] = gives (p ∷ from ∷ [])
 stepFrom from p n (zero ∷ ws) = stepFrom from (p + zeroTicks) (n + 1) ws
 stepFrom from p n (suc w ∷ ws) = gives ((p + suc w) ∷ 0 ∷ (n + 1) ∷ [])
 
--- A step over flux bytes s with the cursor at word n, "counting zero words from that number on".
+-- F-9, F-4: a step over flux bytes s with the cursor at word n: zero words count from there on. R-17 comes first.
 abbrev pub stepAt : List ℕ → ℕ → Answer
 stepAt s n = cond (badFluxSize (length s)) (refused wordsRefused 0) (stepFrom n 0 n (drop n (wordsOf s)))
 
 -- ---- an answer that fills a buffer
 
--- A refusal's number and position; or the values that are given, and what then stands at the buffer's start.
+-- RO-9, RO-10: a refusal's number and position; or the values that are given, and what then stands at the buffer's start.
 pub data Filling : Type 0 where
   refuses : ℕ → ℕ → Filling
   fills : List ℕ → List ℕ → Filling
 
--- What is answered.
+-- A-2: what a call that fills a buffer answers.
 abbrev pub answerOf : Filling → Answer
 answerOf (refuses k i) = refused k i
 answerOf (fills vs xs) = gives vs
 
--- "On success a filled buffer holds the answer at its start and keeps its old contents beyond"; a refusal "changes no byte".
+-- RO-9, RO-10: the buffer at exit: as it was if the call is refused, else the answer at its start and its old contents beyond.
 abbrev pub bufferAfter : List ℕ → Filling → List ℕ
 bufferAfter old (refuses k i) = old
 bufferAfter old (fills vs xs) = xs ++ drop (length xs) old
 
--- 15 where "the answer needs more than the lent buffer has".
+-- R-15: the answer is refused where it needs more places than the lent buffer has.
 abbrev pub inPlaces : ℕ → List ℕ → List ℕ → Filling
 inPlaces places vs xs = cond (ltb places (length xs)) (refuses placesRefused 0) (fills vs xs)
 
 -- ---- all intervals at one go
 
--- Number and values of each case: the number of places filled, and the open time.
+-- A-4: number and values of each case: how many places are filled, and the open time.
 abbrev pub ofFilled : Filled → Answer
 ofFilled (filled.Places n o) = gives (n ∷ o ∷ [])
 ofFilled (filled.Refused r) = refused (r .number) (r .position)
 
--- The intervals ts with open time o, into so many places.
+-- F-12: the intervals ts with open time o, into so many places.
 abbrev pub readInto : ℕ → List ℕ → ℕ → Filling
 readInto places ts o = inPlaces places (length ts ∷ o ∷ []) ts
 
--- The intervals of flux bytes s, into so many places: 17, then 15.
+-- F-12, F-4, RO-8: the intervals of flux bytes s, into so many places: 17, then 15.
 abbrev pub reading : List ℕ → ℕ → Filling
 reading s places =
     cond (badFluxSize (length s)) (refuses wordsRefused 0)
@@ -88,16 +90,16 @@ reading s places =
 
 -- ---- words from times
 
--- Number and values of each case: the number of bytes filled.
+-- A-5: number and values of each case: how many bytes are filled.
 abbrev pub ofWritten : Written → Answer
 ofWritten (written.Bytes n) = gives (n ∷ [])
 ofWritten (written.Refused r) = refused (r .number) (r .position)
 
--- The bytes bs, into so many places.
+-- F-15: the bytes bs, into so many places.
 abbrev pub writeInto : ℕ → List ℕ → Filling
 writeInto places bs = inPlaces places (length bs ∷ []) bs
 
--- The bytes of times, into so many places: "Making words uses 16 before 15".
+-- F-15, RO-8: the bytes of the words of times, into so many places: 16, then 15.
 abbrev pub writing : List ℕ → ℕ → Filling
 writing ts places =
     cond (ltb (firstInexpressible ts) (length ts)) (refuses timeRefused (firstInexpressible ts))

@@ -2,4 +2,3 @@ pub mod Coding
 pub mod Reading
 pub mod Writing
 pub mod Answers
-pub mod Theorems

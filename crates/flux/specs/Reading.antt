@@ -1,30 +1,30 @@
--- From words to intervals (01, Flux and time).
+-- From words to intervals (F-2 to F-7).
 use Prim.Native.Nat.{ℕ, zero, suc, _+_}
 use mathlib.Core.List.{List, [], _∷_}
 
--- The ticks of a zero word.
+-- F-2: the ticks of a zero word, which closes nothing.
 abbrev pub zeroTicks : ℕ
 zeroTicks = 65_536
 
--- "A word w > 0 closes an interval of w plus 65,536 for each zero word directly before it"; p ticks are pending.
+-- F-3: a word w > 0 closes an interval of w ticks, plus 65,536 for each zero word directly before it; p ticks are pending.
 unfoldable pub intervals : ℕ → List ℕ → List ℕ
 intervals p [] = []
 intervals p (zero ∷ ws) = intervals (p + zeroTicks) ws
 intervals p (suc w ∷ ws) = (p + suc w) ∷ intervals 0 ws
 
--- "Zero words after the last closing word are open time, 65,536 ticks each, and no interval"; p ticks are pending.
+-- F-5: zero words after the last closing word are open time, 65,536 ticks each, and no interval; p ticks are pending.
 unfoldable pub openTime : ℕ → List ℕ → ℕ
 openTime p [] = p
 openTime p (zero ∷ ws) = openTime (p + zeroTicks) ws
 openTime p (suc w ∷ ws) = openTime 0 ws
 
--- How many words are not zero.
+-- F-6: how many words are not zero.
 unfoldable pub closingWords : List ℕ → ℕ
 closingWords [] = 0
 closingWords (zero ∷ ws) = closingWords ws
 closingWords (suc w ∷ ws) = suc (closingWords ws)
 
--- "the sum over the words, 65,536 for a zero and w for any other".
+-- F-7: the sum over the words: 65,536 for a zero word, w for any other.
 unfoldable pub totalTicks : List ℕ → ℕ
 totalTicks [] = 0
 totalTicks (zero ∷ ws) = zeroTicks + totalTicks ws

@@ -13,21 +13,21 @@ ghost use Rattle.flux.specs.Writing.{expressible, wordsFor};
 ghost use Rattle.flux.specs.Answers.{gives, ofStep, stepAt, ofFilled, reading, ofWritten, writing, answerOf, bufferAfter};
 use refusals::Refusal;
 
-// The ticks of a zero word, which closes no interval.
+// The ticks of a zero word, which closes no interval (F-2).
 const ZERO_TICKS: u64 = 65_536;
 
-// The most bytes of flux that are read.
+// The most bytes of flux that are read (R-17).
 const FLUX_LIMIT: usize = 268_435_456;
 
-// The longest time that is written.
+// The longest time that is written (F-13).
 const TICK_LIMIT: u64 = 4_294_967_295;
 
-// The number of the word to read next (01: the reader).
+// The cursor: the number of the word to read next (F-9, A-16).
 pub struct Cursor {
     pub word: usize,
 }
 
-// What a step finds.
+// What a step finds (A-3).
 pub enum Step {
     // A word closes an interval; beside an interval the open time is 0, and next is past that word.
     Interval { ticks: u64, open: u64, next: Cursor },
@@ -36,13 +36,13 @@ pub enum Step {
     Refused(Refusal),
 }
 
-// The intervals at one go: how many places are filled, and the open time.
+// The intervals at one go: how many places are filled, and the open time (A-4).
 pub enum Filled {
     Places { filled: usize, open: u64 },
     Refused(Refusal),
 }
 
-// The words of times: how many bytes are filled.
+// The words of times: how many bytes are filled (A-5).
 pub enum Written {
     Bytes(usize),
     Refused(Refusal),
@@ -55,7 +55,7 @@ fn wide(x: u8) -> u16
 }
 
 // Whether flux of n bytes is refused.
-fn bad_flux_size(n: usize) -> bool
+pub fn bad_flux_size(n: usize) -> bool
     ensures { λ r. ⌜ r ≡ badFluxSize n ⌝ }
 {
     (n % 2 == 1) | (FLUX_LIMIT < n)
@@ -80,10 +80,7 @@ impl Cursor {
         let from = self.word;
         let n = flux.len();
         if bad_flux_size(n) {
-            return Step::Refused(Refusal {
-                number: refusals::WORDS,
-                position: 0,
-            });
+            return Step::Refused(refusals::refuse(refusals::WORDS, 0));
         }
         let words = n / 2;
         let mut ticks: u64 = 0;
@@ -170,19 +167,13 @@ pub fn intervals(flux: &[u8], times: &mut [u64]) -> Filled
 {
     let n = flux.len();
     if bad_flux_size(n) {
-        return Filled::Refused(Refusal {
-            number: refusals::WORDS,
-            position: 0,
-        });
+        return Filled::Refused(refusals::refuse(refusals::WORDS, 0));
     }
     let places = times.len();
     if enough_places(flux, places) {
         fill(flux, times)
     } else {
-        Filled::Refused(Refusal {
-            number: refusals::PLACES,
-            position: 0,
-        })
+        Filled::Refused(refusals::refuse(refusals::PLACES, 0))
     }
 }
 
@@ -209,17 +200,11 @@ fn measure(times: &[u64], room: usize) -> Written
                 words += (t / ZERO_TICKS) as usize + 1;
             }
         } else {
-            return Written::Refused(Refusal {
-                number: refusals::TIME,
-                position: i as u64,
-            });
+            return Written::Refused(refusals::refuse(refusals::TIME, i as u64));
         }
     }
     if most < words {
-        return Written::Refused(Refusal {
-            number: refusals::PLACES,
-            position: 0,
-        });
+        return Written::Refused(refusals::refuse(refusals::PLACES, 0));
     }
     let bytes = 2 * words;
     Written::Bytes(bytes)

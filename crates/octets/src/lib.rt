@@ -1,5 +1,5 @@
-// Numbers in bytes, read and put, and the byte sum. Each function is total: past the end a byte reads 0, and a number that does
-// not fit whole is not put.
+// Numbers in bytes, read and put, and the byte sum (N-1 to N-6). Each function is total: past the end a byte reads 0, and a number that
+// does not fit whole is not put.
 ghost use mathlib.Core.Path.{_≡_};
 ghost use mathlib.Core.List.{[], _∷_};
 ghost use Prim.Native.Nat.{_+_, _*_, _%_, _<_, _≤_};

@@ -2,7 +2,7 @@
 ghost use mathlib.Core.Path.{_≡_};
 ghost use Rattle.refusals.specs.Refusals.{none, refusal};
 
-// The table of refusals, by number. Each number has one meaning in all crates.
+// The table of refusals, by number (R-1 to R-18). Each number has one meaning in all crates.
 pub const SIZE: u32 = 1;
 
 pub const SIGN: u32 = 2;
@@ -39,7 +39,7 @@ pub const WORDS: u32 = 17;
 
 pub const SHARED: u32 = 18;
 
-// A number of the table and a position; number 0 is no refusal.
+// A number of the table and a position; number 0 is no refusal (RO-1).
 pub struct Refusal {
     pub number: u32,
     pub position: u64,

@@ -80,7 +80,7 @@ speeds-same ex ey = cc
 
 answer-by : (x : Bool) (d : RevolutionData) (f : Refusal)
     → ofRevolution (cond x (revolution-answer.Found d) (revolution-answer.Refused f))
-    ≡ cond x (numbers (d .duration ∷ d .words ∷ d .place .0 ∷ [])) (refused (f .number) (f .position))
+    ≡ cond x (numbers (d .duration ∷ d .words ∷ d .offset .0 ∷ [])) (refused (f .number) (f .position))
 answer-by true d f = refl
 answer-by false d f = refl
 

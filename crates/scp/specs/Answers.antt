@@ -1,4 +1,4 @@
--- What each call on an image answers (01: "a definition gives this paper's number and values for each of its cases").
+-- What each call on an image answers: a definition gives the number and the values of each case (A-2).
 use Prim.Native.Nat.{ℕ, _+_, _*_}
 use mathlib.Core.List.{List, [], _∷_}
 use mathlib.Core.Bool.{cond}
@@ -41,39 +41,44 @@ use Rattle.scp.specs.declared.SpeedAnswer.the-variants as speed-answer
 use Rattle.scp.specs.declared.TrackSpeedAnswer.{TrackSpeedAnswer}
 use Rattle.scp.specs.declared.TrackSpeedAnswer.the-variants as track-speed-answer
 
--- An answer: a refusal's number and position; the plain fact that there is none; or values.
+-- A-2: an answer: a refusal's number and position; the plain fact that there is none; or values. Bytes are a part of the image: the file
+-- offset where it starts, and its bytes.
 pub data Answer : Type 0 where
   refused : ℕ → ℕ → Answer
   none : Answer
   numbers : List ℕ → Answer
   footer : List ℕ → List ℤ → List ℕ → Answer
   speeds : List Float → Answer
-  bytes : List ℕ → Answer
+  bytes : ℕ → List ℕ → Answer
 
--- The answer a, unless f refuses.
+-- T-14: the answer a, unless f refuses.
 abbrev pub unless : Refusal → Answer → Answer
 unless f a = cond (passes f) a (refused (f .number) (f .position))
 
 -- ---- validating
 
+-- A-6: number and values of each case of validating.
 abbrev pub ofValidated : Validated → Answer
 ofValidated validated.Valid = numbers []
 ofValidated (validated.Refused r) = refused (r .number) (r .position)
 
+-- R-12, T-14: validating gives no values.
 abbrev pub validateAnswer : List ℕ → Answer
 validateAnswer b = unless (validateFault b) (numbers [])
 
 -- ---- the header
 
+-- T-3: the nine numbers of a header.
 abbrev pub headerNumbers : Header → List ℕ
 headerNumbers h =
     h .version ∷ h .disk ∷ h .revolutions ∷ h .start ∷ h .end ∷ h .flags ∷ h .width ∷ h .heads ∷ h .checksum ∷ []
 
+-- A-7: number and values of each case of the header.
 abbrev pub ofHeader : HeaderAnswer → Answer
 ofHeader (header-answer.Found h) = numbers (headerNumbers h)
 ofHeader (header-answer.Refused r) = refused (r .number) (r .position)
 
--- Version, disk type, revolutions, start, end, flags, width, heads, checksum.
+-- T-3, C-5: version, disk type, revolutions, start, end, flags, width, heads, checksum.
 unfoldable pub headerAnswer : List ℕ → Answer
 headerAnswer b =
     unless (openFault b)
@@ -82,18 +87,20 @@ headerAnswer b =
 
 -- ---- the footer
 
+-- T-4: six offsets, two times and four version bytes.
 abbrev pub ofFooterData : FooterData → Answer
 ofFooterData f =
     footer (f .maker ∷ f .model ∷ f .serial ∷ f .creator ∷ f .application ∷ f .comments ∷ [])
     (f .created ∷ f .modified ∷ [])
     (f .software ∷ f .hardware ∷ f .firmware ∷ f .format ∷ [])
 
+-- A-8: number and values of each case of the footer.
 abbrev pub ofFooter : FooterAnswer → Answer
 ofFooter (footer-answer.Found f) = ofFooterData f
 ofFooter footer-answer.None = none
 ofFooter (footer-answer.Refused r) = refused (r .number) (r .position)
 
--- "The footer is handed out as its six offsets, two times and four version bytes".
+-- T-4: the footer: its six offsets, two times and four version bytes.
 unfoldable pub footerValues : List ℕ → Answer
 footerValues b =
     footer
@@ -101,27 +108,29 @@ footerValues b =
     (le64At b (footerAt b + 0x18) ∷ le64At b (footerAt b + 0x20) ∷ [])
     (byteAt b (footerAt b + 0x28) ∷ byteAt b (footerAt b + 0x29) ∷ byteAt b (footerAt b + 0x2A) ∷ byteAt b (footerAt b + 0x2B) ∷ [])
 
--- "or as the plain fact that there is none".
+-- T-4, C-6: that, or the plain fact that there is none.
 unfoldable pub footerAnswer : List ℕ → Answer
 footerAnswer b = unless (openFault b) (cond (hasFooter b) (footerValues b) none)
 
 -- ---- a track
 
+-- A-9: number and values of each case of a track.
 abbrev pub ofTrack : TrackAnswer → Answer
-ofTrack (track-answer.Found d) = numbers (d .cylinder ∷ d .head ∷ d .place .0 ∷ d .revolutions ∷ [])
+ofTrack (track-answer.Found d) = numbers (d .cylinder ∷ d .head ∷ d .offset .0 ∷ d .revolutions ∷ [])
 ofTrack (track-answer.Refused r) = refused (r .number) (r .position)
 
--- Cylinder, head, file offset of its header, revolutions.
+-- T-5, C-7: cylinder, head, file offset of its header, revolutions.
 unfoldable pub trackAnswer : List ℕ → ℕ → Answer
 trackAnswer b t = unless (trackQuestion b t) (numbers (cylinderOf t ∷ headOf t ∷ trackEntry b t ∷ revolutions b ∷ []))
 
 -- ---- a revolution
 
+-- A-10: number and values of each case of a revolution.
 abbrev pub ofRevolution : RevolutionAnswer → Answer
-ofRevolution (revolution-answer.Found d) = numbers (d .duration ∷ d .words ∷ d .place .0 ∷ [])
+ofRevolution (revolution-answer.Found d) = numbers (d .duration ∷ d .words ∷ d .offset .0 ∷ [])
 ofRevolution (revolution-answer.Refused r) = refused (r .number) (r .position)
 
--- Duration, count of words, place.
+-- T-6, C-8: duration, count of words, file offset of its flux.
 unfoldable pub revolutionAnswer : List ℕ → ℕ → ℕ → Answer
 revolutionAnswer b t k =
     unless (revolutionQuestion b t k)
@@ -129,61 +138,72 @@ revolutionAnswer b t k =
 
 -- ---- its flux
 
--- The part of the image that is a revolution's flux.
+-- T-7: the part of the image that is a revolution's flux.
 abbrev pub fluxOf : List ℕ → RevolutionData → List ℕ
-fluxOf b d = take (2 * d .words) (drop (d .place .0) b)
+fluxOf b d = take (2 * d .words) (drop (d .offset .0) b)
 
--- "Its flux can also be had as that part of the caller's image. Where the turn is refused, its part is the empty one at offset 0".
+-- T-7: the flux as that part of the caller's image; the empty part at offset 0 where the revolution is refused.
 abbrev pub partOf : List ℕ → RevolutionAnswer → List ℕ
 partOf b (revolution-answer.Found d) = fluxOf b d
 partOf b (revolution-answer.Refused r) = []
 
+-- T-7: the file offset at which the part starts, 0 where the revolution is refused.
 abbrev pub startOf : RevolutionAnswer → ℕ
-startOf (revolution-answer.Found d) = d .place .0
+startOf (revolution-answer.Found d) = d .offset .0
 startOf (revolution-answer.Refused r) = 0
 
+-- T-7: the part that is the flux of revolution k of track t.
 abbrev pub fluxPart : List ℕ → ℕ → ℕ → List ℕ
 fluxPart b t k = partOf b (foundRevolution b t k)
 
+-- T-7: where that part starts.
 abbrev pub fluxStart : List ℕ → ℕ → ℕ → ℕ
 fluxStart b t k = startOf (foundRevolution b t k)
 
+-- T-7, S-17: where the flux starts, and its bytes; the number and position where the revolution is refused.
+abbrev pub fluxAnswer : List ℕ → ℕ → ℕ → Answer
+fluxAnswer b t k = unless (revolutionQuestion b t k) (bytes (fluxStart b t k) (fluxPart b t k))
+
 -- ---- speeds
 
+-- T-10: a speed in rpm, or none.
 abbrev pub ofSpeedOnly : Speed → Answer
 ofSpeedOnly (speed.Rpm x) = speeds (x ∷ [])
 ofSpeedOnly speed.None = none
 
+-- A-11: number and values of each case of a speed.
 abbrev pub ofSpeed : SpeedAnswer → Answer
 ofSpeed (speed-answer.Found s) = ofSpeedOnly s
 ofSpeed (speed-answer.Refused r) = refused (r .number) (r .position)
 
--- "The answer is a speed in rpm or the plain fact that there is none, which is so for duration 0."
+-- T-10, C-10: a speed in rpm, or the plain fact that there is none, which is so for duration 0.
 unfoldable pub speedAnswer : List ℕ → ℕ → ℕ → Answer
 speedAnswer b t k =
     unless (revolutionQuestion b t k)
     (cond (eqb (durationAt b (trackEntry b t) k) 0) none (speeds (rpmOf (durationAt b (trackEntry b t) k) ∷ [])))
 
+-- A-12: number and values of each case of the speeds of a track.
 abbrev pub ofTrackSpeed : TrackSpeedAnswer → Answer
 ofTrackSpeed (track-speed-answer.Found s) = speeds (s .slowest ∷ s .fastest ∷ [])
 ofTrackSpeed track-speed-answer.None = none
 ofTrackSpeed (track-speed-answer.Refused r) = refused (r .number) (r .position)
 
--- Of a track's speeds.
+-- T-12: number and values of each case of a track's speeds.
 abbrev pub ofSpeedRange : SpeedRange → Answer
 ofSpeedRange (range.Speeds s) = speeds (s .slowest ∷ s .fastest ∷ [])
 ofSpeedRange range.None = none
 
--- "a pair of slowest and fastest speed, from its longest and its shortest nonzero duration, or none if all are 0".
+-- T-12, C-10: the slowest and the fastest speed, of the longest and the shortest duration that is not 0, or none if all are 0.
 unfoldable pub trackSpeedAnswer : List ℕ → ℕ → Answer
 trackSpeedAnswer b t = unless (trackQuestion b t) (ofSpeedRange (speedsOf b (trackEntry b t)))
 
 -- ---- its intervals at one go
 
--- What reading the intervals of a revolution into so many places gives: what refuses the revolution, then 15.
+-- T-9: what reading the intervals of a revolution into so many places gives: what refuses the revolution, then 15.
 abbrev pub intervalsOf : List ℕ → ℕ → RevolutionAnswer → Filling
 intervalsOf b places (revolution-answer.Found d) = reading (fluxOf b d) places
 intervalsOf b places (revolution-answer.Refused r) = refuses (r .number) (r .position)
 
+-- T-9: the intervals of revolution k of track t, into so many places.
 abbrev pub revolutionReading : List ℕ → ℕ → ℕ → ℕ → Filling
 revolutionReading b t k places = intervalsOf b places (foundRevolution b t k)

@@ -1,3 +1,2 @@
 pub mod Validating
 pub mod Answers
-pub mod Theorems

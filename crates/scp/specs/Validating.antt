@@ -1,4 +1,4 @@
--- Validating (01: judging): 1 to 12 (01, Numbers of refusal).
+-- Validating: 1 to 12 (R-12, RO-5).
 use Prim.Native.Nat.{ℕ}
 use mathlib.Core.List.{List}
 use mathlib.Core.Bool.{Bool, not, cond}
@@ -8,14 +8,14 @@ use Rattle.refusals.specs.Refusals.{none, refusal, refuseIf, firstOf}
 use Rattle.scp_fields.specs.Header.{readWrite, storedSum, trueSum}
 use Rattle.scp_open.specs.Opening.{openFault}
 
--- The checksum that is to be stored: the true sum of a read-only image, 0 of a read/write one.
+-- R-12: the checksum that is to be stored: the true sum of a read-only image, 0 of a read/write one.
 unfoldable pub wantedSum : List ℕ → ℕ
 wantedSum b = cond (readWrite b) 0 (trueSum b)
 
--- 12 Sum: "read-only: stored is not the sum of all bytes from 0x10 modulo 2^32; read/write: stored is not 0".
+-- R-12: a read-only image does not store its true byte sum, or a read/write image does not store 0.
 abbrev pub badSum : List ℕ → Bool
 badSum b = not (eqb (storedSum b) (wantedSum b))
 
--- Validating (01: judging): 1 to 12.
+-- RO-5: validating: 1 to 12.
 unfoldable pub validateFault : List ℕ → Refusal
 validateFault b = firstOf (openFault b) (refuseIf (badSum b) (refusal 12 0) none)

@@ -55,7 +55,7 @@ pub enum FooterAnswer {
 pub struct TrackData {
     pub cylinder: u32,
     pub head: u32,
-    pub place: FileOffset,
+    pub offset: FileOffset,
     pub revolutions: u32,
 }
 
@@ -88,7 +88,7 @@ fn wanted_sum(image: &[u8]) -> u32
     octets::byte_sum(&image[scp_fields::TABLE_AT..])
 }
 
-// Validates an image (01: judging): refusals 1 to 12.
+// Validates an image: refusals 1 to 12.
 pub fn validate(image: &[u8]) -> Validated
     ensures { λ r. ⌜ ofValidated r ≡ validateAnswer (now (image .entry)) ⌝ }
 {
@@ -133,12 +133,12 @@ fn read_footer(image: &[u8]) -> FooterData
         creator: scp_fields::string_entry(image, 3),
         application: scp_fields::string_entry(image, 4),
         comments: scp_fields::string_entry(image, 5),
-        created: octets::le64(image, f + 24),
-        modified: octets::le64(image, f + 32),
-        software: image[f + 40],
-        hardware: image[f + 41],
-        firmware: image[f + 42],
-        format: image[f + 43],
+        created: octets::le64(image, f + scp_fields::CREATED_AT),
+        modified: octets::le64(image, f + scp_fields::MODIFIED_AT),
+        software: image[f + scp_fields::SOFTWARE_AT],
+        hardware: image[f + scp_fields::HARDWARE_AT],
+        firmware: image[f + scp_fields::FIRMWARE_AT],
+        format: image[f + scp_fields::FORMAT_AT],
     }
 }
 
@@ -168,14 +168,14 @@ pub fn track(image: &[u8], track: u32) -> TrackAnswer
         Entry::At(entry) => TrackAnswer::Found(TrackData {
             cylinder: scp_tracks::cylinder(track),
             head: scp_tracks::head(track),
-            place: FileOffset(entry as u64),
+            offset: FileOffset(entry as u64),
             revolutions: scp_fields::revolutions(image) as u32,
         }),
         Entry::Refused(r) => TrackAnswer::Refused(r),
     }
 }
 
-// A revolution: duration, words, place.
+// A revolution: duration, words, file offset of its flux.
 pub fn revolution(image: &[u8], track: u32, revolution: u32) -> RevolutionAnswer
     ensures { λ r. ⌜ ofRevolution r ≡ revolutionAnswer (now (image .entry)) track revolution ⌝ }
 {
@@ -184,12 +184,12 @@ pub fn revolution(image: &[u8], track: u32, revolution: u32) -> RevolutionAnswer
 
 // The flux of a revolution that lies in the image.
 fn part_of(image: &[u8], numbers: RevolutionData) -> &[u8]
-    requires { ⌜ numbers .place .0 + 2 * numbers .words ≤ length (now image) ⌝ }
+    requires { ⌜ numbers .offset .0 + 2 * numbers .words ≤ length (now image) ⌝ }
     ensures { λ r. ⌜ now r ≡ fluxOf (now (image .entry)) numbers ⌝ }
-    ensures { λ r. ⌜ r .ptr ≡ (image .entry .ptr .0, numbers .place .0 + image .entry .ptr .1) ⌝ }
+    ensures { λ r. ⌜ r .ptr ≡ (image .entry .ptr .0, numbers .offset .0 + image .entry .ptr .1) ⌝ }
 {
-    let place = numbers.place;
-    let start = place.0 as usize;
+    let offset = numbers.offset;
+    let start = offset.0 as usize;
     let end = start + 2 * (numbers.words as usize);
     &image[start..end]
 }

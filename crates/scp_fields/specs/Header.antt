@@ -1,4 +1,4 @@
--- The header and the table (01, Layout).
+-- The header and the table (L-2 to L-12, L-17).
 use Prim.Native.Nat.{ℕ, _+_, _-_, _*_, _/_, _%_}
 use mathlib.Core.List.{List}
 use mathlib.Core.Bool.{Bool}
@@ -10,94 +10,96 @@ use Rattle.refusals.specs.Search.{listFrom}
 
 -- ---- numbers that a later ruling could move
 
--- The most bytes of an image (01, refusal 1).
+-- R-1: the most bytes of an image.
 abbrev pub sizeLimit : ℕ
 sizeLimit = 268_435_456
 
--- Where the table of tracks starts (01, Layout).
+-- L-11: where the table of tracks starts.
 abbrev pub tableAt : ℕ
 tableAt = 0x10
 
--- How many entries the table has (01, rulings: tracks number 0 to 167).
+-- L-11, L-12: how many entries the table has: tracks number 0 to 167.
 abbrev pub trackSlots : ℕ
 trackSlots = 168
 
--- The highest track number.
+-- L-12: the highest track number.
 abbrev pub lastTrack : ℕ
 lastTrack = trackSlots - 1
 
--- Where the table ends, and the least offset of tracks, flux and strings: 688 (01, Layout).
+-- L-11, L-18: where the table ends, and the least offset of tracks, flux and strings: 688.
 abbrev pub tableEnd : ℕ
 tableEnd = tableAt + 4 * trackSlots
 
--- The most revolutions of a track (01, rulings: turns are 1 to 5).
+-- L-3: the most revolutions of a track.
 abbrev pub mostRevolutions : ℕ
 mostRevolutions = 5
 
--- The bytes of the footer.
+-- L-17, L-21: the bytes of the footer.
 abbrev pub footerSize : ℕ
 footerSize = 48
 
 -- ---- fields
 
--- 0x03: the version byte, any.
+-- L-2: 0x03, the version byte, any.
 abbrev pub version : List ℕ → ℕ
 version b = byteAt b 0x03
 
--- 0x04: the disk type, any.
+-- L-2: 0x04, the disk type, any.
 abbrev pub disk : List ℕ → ℕ
 disk b = byteAt b 0x04
 
--- 0x05: revolutions per track (01: turns per track, R).
+-- L-3: 0x05, the number of revolutions of every track, R.
 abbrev pub revolutions : List ℕ → ℕ
 revolutions b = byteAt b 0x05
 
--- 0x06 and 0x07: start and end track, both included.
+-- L-4: 0x06, the start track, included.
 abbrev pub startTrack : List ℕ → ℕ
 startTrack b = byteAt b 0x06
 
+-- L-4: 0x07, the end track, included.
 abbrev pub endTrack : List ℕ → ℕ
 endTrack b = byteAt b 0x07
 
--- 0x08: FLAGS.
+-- L-5: 0x08, FLAGS.
 abbrev pub flags : List ℕ → ℕ
 flags b = byteAt b 0x08
 
--- FLAGS bit 4: read/write (01, rulings: "Read/write" is FLAGS bit 4).
+-- L-6: FLAGS bit 4: read/write where it is set, read-only where it is clear.
 abbrev pub readWrite : List ℕ → Bool
 readWrite b = eqb (flags b / 16 % 2) 1
 
--- FLAGS bit 5: footer.
+-- L-17: FLAGS bit 5, as a number.
 abbrev pub footerBit : List ℕ → ℕ
 footerBit b = flags b / 32 % 2
 
+-- L-21: the image has a footer: FLAGS bit 5 is set.
 abbrev pub hasFooter : List ℕ → Bool
 hasFooter b = eqb (footerBit b) 1
 
--- 0x09: word width.
+-- L-7: 0x09, the word width.
 abbrev pub width : List ℕ → ℕ
 width b = byteAt b 0x09
 
--- 0x0A: heads, 0 both, 1 side 0 (even tracks), 2 side 1 (odd tracks).
+-- L-8: 0x0A, the heads: 0 both sides, 1 side 0 (even tracks), 2 side 1 (odd tracks).
 abbrev pub heads : List ℕ → ℕ
 heads b = byteAt b 0x0A
 
--- 0x0C: the stored checksum.
+-- L-10: 0x0C, the checksum as it is stored.
 abbrev pub storedSum : List ℕ → ℕ
 storedSum b = le32At b 0x0C
 
--- "the sum of all bytes from 0x10 modulo 2^32" (01, refusal 12; the true byte sum).
+-- L-10: the true byte sum: of all bytes from 0x10 to the end of the image, modulo 2^32.
 unfoldable pub trueSum : List ℕ → ℕ
 trueSum b = byteSum (drop 0x10 b)
 
--- 0x10: the table's entry of a track: the file offset of its header, or 0 for no track.
+-- L-11: 0x10, the table's entry of track t: the file offset of its track data header, or 0 for no track.
 abbrev pub trackEntry : List ℕ → ℕ → ℕ
 trackEntry b t = le32At b (tableAt + 4 * t)
 
--- The 168 entries together.
+-- L-11, A-15: the 168 entries together.
 abbrev pub entries : List ℕ → List ℕ
 entries b = listFrom (trackEntry b) 0 trackSlots
 
--- "E is the image length, less 48 if FLAGS bit 5 is set."
+-- L-17: E, where tracks, flux and strings must end: the length of the image, less 48 if FLAGS bit 5 is set.
 abbrev pub dataEnd : List ℕ → ℕ
 dataEnd b = length b - footerSize * footerBit b

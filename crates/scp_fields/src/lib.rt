@@ -18,7 +18,7 @@ ghost use Rattle.scp_fields.specs.Header.{
 };
 ghost use Rattle.scp_fields.specs.Footer.{footerAt, stringEntry};
 
-// Where the fields of the header stand.
+// Where the fields of the header stand (L-2 to L-10).
 pub const VERSION_AT: usize = 3;
 
 pub const DISK_AT: usize = 4;
@@ -47,17 +47,32 @@ pub const LAST_TRACK: usize = TRACK_SLOTS - 1;
 
 pub const TABLE_END: usize = TABLE_AT + 4 * TRACK_SLOTS;
 
-// The most bytes of an image, and the most revolutions of a track.
+// The most bytes of an image (R-1), and the most revolutions of a track (L-3).
 pub const SIZE_LIMIT: usize = 268_435_456;
 
 pub const MOST_REVOLUTIONS: usize = 5;
 
-// The bytes of the footer, the least length of an image that has one, and its strings.
+// The bytes of the footer, the least length of an image that has one, and its strings (L-21, L-22).
 pub const FOOTER_SIZE: usize = 48;
 
 pub const FOOTER_LEAST: usize = TABLE_END + FOOTER_SIZE;
 
 pub const STRING_SLOTS: u32 = 6;
+
+// Where the footer has its two times, its four version bytes and its mark.
+pub const CREATED_AT: usize = 24;
+
+pub const MODIFIED_AT: usize = 32;
+
+pub const SOFTWARE_AT: usize = 40;
+
+pub const HARDWARE_AT: usize = 41;
+
+pub const FIRMWARE_AT: usize = 42;
+
+pub const FORMAT_AT: usize = 43;
+
+pub const FOOTER_MARK_AT: usize = 44;
 
 fn wide(x: u8) -> usize
     ensures { λ r. ⌜ (r ≡ x) × (r < 256) ⌝ }

@@ -1,12 +1,12 @@
--- Refusals 1 to 8 in their order (01, Numbers of refusal).
+-- Refusals 1 to 8 in their order (RO-3).
 use Prim.Native.Nat.{ℕ}
 use mathlib.Core.List.{List}
 use Rattle.refusals.specs.declared.Refusal.{Refusal}
 use Rattle.refusals.specs.Refusals.{refusal, refuseIf}
 use Rattle.scp_header.specs.HeaderTests.{badSize, badSign, badWidth, badRevolutions, badSpan, badHeads}
-use Rattle.scp_header.specs.Footer.{footerFault}
+use Rattle.scp_footer.specs.Footer.{footerFault}
 
--- "The lowest number among 1 to 8 comes first."
+-- RO-3: of 1 to 8 the lowest number comes first.
 unfoldable pub headFault : List ℕ → Refusal
 headFault b =
     refuseIf (badSize b) (refusal 1 0)

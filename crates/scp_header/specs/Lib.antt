@@ -1,3 +1,2 @@
 pub mod HeaderTests
-pub mod Footer
 pub mod HeaderFault

@@ -35,8 +35,8 @@ fn print_refusal(r: Refusal) {
 
 // The flux of a revolution, or nothing where it does not lie in the image, as it does in every valid one.
 fn flux_of(image: &[u8], data: RevolutionData) -> &[u8] {
-    let place = data.place;
-    let at = place.0;
+    let offset = data.offset;
+    let at = offset.0;
     let size = image.len() as u64;
     let bytes = 2 * (data.words as u64);
     if size < at {

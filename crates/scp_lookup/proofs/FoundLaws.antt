@@ -6,12 +6,12 @@ use mathlib.Core.Bool.{Bool, true, false, cond}
 use native.Mathlib.Omega.{arith}
 use lib.ListN.{length}
 use lib.Dec.{leb, ltb}
-use borrow.Author.Tests.{eq-eqb, ne-eqb, eqb-true, eqb-false, le-leb, lt-leb, leb-false, ltb-true, ltb-false}
+use borrow.Author.Tests.{eq-eqb, ne-eqb, eqb-true, eqb-false, lt-leb, leb-false, ltb-true}
 use Rattle.refusals.specs.declared.Refusal.{Refusal}
-use Rattle.refusals.specs.Refusals.{none, refusal, passes, refuseIf, firstOf}
+use Rattle.refusals.specs.Refusals.{none, passes, refuseIf, firstOf}
 use Rattle.scp_fields.specs.Header.{revolutions, trackEntry}
 use Rattle.refusals.proofs.Finding.{not-refused}
-use Rattle.scp_tracks.specs.Revolutions.{dataOf, revolutionOf}
+use Rattle.scp_tracks.specs.Revolutions.{dataOf, revolutionOf, ofPresence, revolutionFault}
 use Rattle.scp_tracks.specs.declared.Revolution.the-variants.{Absent, Present}
 use Rattle.scp_tracks.specs.declared.RevolutionData.{RevolutionData}
 use Rattle.scp_open.proofs.Opens.{opens}
@@ -19,7 +19,7 @@ use Rattle.scp_lookup.specs.Questions.{trackThen, trackQuestion, revolut
 use Rattle.scp_lookup.specs.Lookups.{foundTrack, foundRevolution}
 use Rattle.scp_lookup.specs.declared.Entry.the-variants as entry
 use Rattle.scp_lookup.specs.declared.RevolutionAnswer.the-variants as revolution-answer
-use Rattle.scp_lookup.proofs.Asking.{TrackThere, then-rest, there, track-passes}
+use Rattle.scp_lookup.proofs.Asking.{TrackThere, then-rest, there, track-passes, is-refusal}
 
 -- ---- a track
 
@@ -80,14 +80,6 @@ refused-alike b t rest n = alike _ _ _ _ _ rest n
 
 -- a revolution read from its track header
 module _ (b : List ℕ) (e k : ℕ) where
-  pub absent-is : Absent ≡ revolutionOf b e k → revolutions b ≤ k
-  unfolding revolutionOf
-  absent-is h = go (ltb k (revolutions b)) refl h
-    where
-      go : (x : Bool) → ltb k (revolutions b) ≡ x → Absent ≡ cond x (Present (dataOf b e k)) Absent → revolutions b ≤ k
-      go true q h = let z : _≡_ {A = ℕ} 0 1 = cc in absurd (omega arith)
-      go false q h = ltb-false k (revolutions b) q
-
   pub record PresentData (d : RevolutionData) : Type 0 where
     pub below : k < revolutions b
     pub same : d ≡ dataOf b e k
@@ -113,12 +105,10 @@ module _ (b : List ℕ) (t k : ℕ) where
       let n : trackQuestion b t .number ≡ 0 → ⊥ = λ z. h .number (ap (λ (x : Refusal). x .number) (h .refuses) ∙ z) in
       revolution-refused (h .refuses ∙ refused-alike b t _ n) (h .number)
 
-  -- where the revolution is absent
-  pub absent-refused : {f : Refusal} → TrackThere b t → revolutions b ≤ k → f ≡ refusal 14 0 → revolution-answer.Refused f ≡ foundRevolution b t k
-  unfolding refuseIf
-  absent-refused {f} h l e =
-      revolution-refused (e ∙ sym (simp (le-leb (revolutions b) k l)) ∙ then-rest b t _ h)
-      (λ z. let q : 14 ≡ 0 = ap (λ (x : Refusal). x .number) (sym e) ∙ z in omega arith)
+  -- where the revolution is absent: its number is that of the case
+  pub absent-refused : {f : Refusal} → TrackThere b t → ofPresence Absent ≡ revolutionFault b k → f ≡ ofPresence Absent
+      → revolution-answer.Refused f ≡ foundRevolution b t k
+  absent-refused {f} h l e = revolution-refused (e ∙ l ∙ then-rest b t _ h) (is-refusal 13 e)
 
   -- the revolution is there
   pub record RevolutionThere : Type 0 where
@@ -173,11 +163,11 @@ module _ (b : List ℕ) (t k : ℕ) where
           record { refuses = e; number = λ z. eqb-false (revolutionQuestion b t k .number) 0 q (ap (λ (x : Refusal). x .number) (sym e) ∙ z) }
 
   -- its flux lies in the image
-  pub flux-within : {d : RevolutionData} → FoundData d → d .place .0 + 2 * d .words ≤ length b
+  pub flux-within : {d : RevolutionData} → FoundData d → d .offset .0 + 2 * d .words ≤ length b
   flux-within {d} h =
       let present = h .present .track in
       let track = opens b (present .opened) .tracks t (present .slot) (present .entry) in
-      let place = ap (λ (x : RevolutionData). x .place .0) (h .same) in
+      let offset = ap (λ (x : RevolutionData). x .offset .0) (h .same) in
       let words = ap (λ (x : RevolutionData). x .words) (h .same) in
       let within = track .flux k (h .present .below) in
       omega arith

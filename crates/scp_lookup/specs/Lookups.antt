@@ -1,4 +1,4 @@
--- A track or a revolution as it is looked up: what is found, or what refuses it (01, Numbers of refusal).
+-- A track or a revolution as it is looked up: what is found, or what refuses it (RO-6).
 use Prim.Native.Nat.{ℕ}
 use mathlib.Core.List.{List}
 use mathlib.Core.Bool.{cond}
@@ -11,11 +11,11 @@ use Rattle.scp_lookup.specs.declared.Entry.the-variants as entry
 use Rattle.scp_lookup.specs.declared.RevolutionAnswer.{RevolutionAnswer}
 use Rattle.scp_lookup.specs.declared.RevolutionAnswer.the-variants as revolution-answer
 
--- The entry of track t, or what refuses it: 1 to 11, then 13.
+-- RO-6, R-13: the entry of track t, or what refuses it: 1 to 11, then 13.
 unfoldable pub foundTrack : List ℕ → ℕ → Entry
 foundTrack b t = cond (passes (trackQuestion b t)) (entry.At (trackEntry b t)) (entry.Refused (trackQuestion b t))
 
--- The numbers of revolution k of track t, or what refuses it: 1 to 11, then 13, then 14.
+-- RO-6, T-6: the numbers of revolution k of track t, or what refuses it: 1 to 11, then 13, then 14.
 unfoldable pub foundRevolution : List ℕ → ℕ → ℕ → RevolutionAnswer
 foundRevolution b t k =
     cond (passes (revolutionQuestion b t k))

@@ -15,7 +15,7 @@ use Rattle.refusals.specs.Refusals.{none}
 use Rattle.scp_fields.specs.Header.{tableEnd, sizeLimit, trackSlots, lastTrack, mostRevolutions, revolutions, startTrack, endTrack, readWrite, hasFooter, width, heads, trackEntry, dataEnd}
 use Rattle.scp_header.specs.HeaderTests.{badSize, badSign, badWidth, badRevolutions, badSpan, badHeads}
 use Rattle.scp_fields.specs.Footer.{footerAt, footerLeast, stringSlots, stringEntry}
-use Rattle.scp_header.specs.Footer.{badFooter, zeroAt, zeroWithin, badStringOf, badString, stringFaultAt, stringFault, stringsFault, footerFault}
+use Rattle.scp_footer.specs.Footer.{badFooter, zeroAt, zeroWithin, badStringOf, badString, stringFaultAt, stringFault, stringsFault, footerFault}
 use Rattle.scp_tracks.specs.Tracks.{headOf, headerSize, badSlot, badMark, badTrack, fluxPast, badFlux, trackFaultAt, trackFault, tracksFault}
 use Rattle.scp_header.specs.HeaderFault.{headFault}
 use Rattle.scp_open.specs.Opening.{openFault}

@@ -1,4 +1,4 @@
--- Opening: refusals 1 to 11 in their order, and the opened image (01, Layout and Numbers of refusal).
+-- Opening: refusals 1 to 11 in their order (RO-3, RO-4), and the opened image (T-1).
 use Prim.Native.Nat.{ℕ}
 use mathlib.Core.List.{List}
 use mathlib.Core.Bool.{cond}
@@ -11,11 +11,11 @@ use Rattle.scp_tracks.specs.Tracks.{tracksFault}
 use Rattle.scp_open.specs.declared.Header.{Header}
 use Rattle.scp_open.specs.declared.Opened.{Opened}
 
--- Refusals 1 to 11.
+-- RO-4, T-1: what refuses the image: 1 to 8, then the tracks with 9 to 11.
 unfoldable pub openFault : List ℕ → Refusal
 openFault b = firstOf (headFault b) (tracksFault b)
 
--- The header as it is handed out.
+-- T-1: the header as it is handed out.
 unfoldable pub headerOf : List ℕ → Header
 headerOf b =
     record {
@@ -30,18 +30,19 @@ headerOf b =
       checksum = storedSum b;
     }
 
--- No header: what stands beside a refusal.
+-- T-1: no header: what stands beside a refusal.
 abbrev pub noHeader : Header
 noHeader =
     record { version = 0; disk = 0; revolutions = 0; start = 0; end = 0; flags = 0; width = 0; heads = 0; checksum = 0 }
 
--- An image that is not refused, with its header and its table.
+-- T-1: an image that is not refused, with its header and its table.
 abbrev pub openedImage : Refusal → List ℕ → Opened
 openedImage f b = record { refusal = f; header = headerOf b; table = entries b }
 
--- A refused image: no header, and no track in the table.
+-- T-1: a refused image: no header, and no track in the table.
 abbrev pub refusedImage : Refusal → Opened
 refusedImage f = record { refusal = f; header = noHeader; table = replicate trackSlots 0 }
 
+-- T-1: what opening gives.
 unfoldable pub openedOf : List ℕ → Opened
 openedOf b = cond (passes (openFault b)) (openedImage (openFault b) b) (refusedImage (openFault b))

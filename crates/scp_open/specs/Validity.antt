@@ -1,5 +1,5 @@
--- What an image must obey to be opened, as a list of plain statements, and the claim that refusals 1 to 11 refuse exactly what breaks it
--- (01: "accepts exactly what none of them refuses").
+-- What an image must obey to be opened (RO-5), as a list of plain statements, and the claim that refusals 1 to 11 refuse exactly what
+-- breaks it.
 use Prim.Native.Nat.{ℕ, _+_, _*_, _<_, _≤_}
 use mathlib.Core.Path.{_≡_}
 use mathlib.Core.Logic.{_↔_, _≢_, _⊎_}
@@ -13,14 +13,14 @@ use Rattle.scp_fields.specs.Footer.{footerAt, footerLeast, stringSlots, stringE
 use Rattle.scp_tracks.specs.Tracks.{headOf, headerSize, countAt, fluxAt}
 use Rattle.scp_open.specs.Opening.{openFault}
 
--- A string at offset o is well placed and well formed.
+-- RO-5, L-18, L-23: a string at offset o is well placed and well formed.
 pub record StringHolds (b : List ℕ) (o : ℕ) : Type 0 where
   pub above : tableEnd ≤ o
   pub below : o + 3 + le16At b o ≤ dataEnd b
   pub text : (i : ℕ) → i < le16At b o → byteAt b (o + 2 + i) ≢ 0
   pub ending : byteAt b (o + 2 + le16At b o) ≡ 0
 
--- The footer is there whole, with "FPCS", version 0x16 or later, and every present string holds.
+-- RO-5, L-21: the footer is there whole, with "FPCS", version 0x16 or later, and every present string holds.
 pub record FooterHolds (b : List ℕ) : Type 0 where
   pub room : footerLeast ≤ length b
   pub sign :
@@ -29,8 +29,8 @@ pub record FooterHolds (b : List ℕ) : Type 0 where
   pub version : 0x16 ≤ byteAt b (footerAt b + 0x2B)
   pub strings : (j : ℕ) → j < stringSlots → stringEntry b j ≢ 0 → StringHolds b (stringEntry b j)
 
--- Track t with entry e lies from start to end on a side that is held, has its header in place with "TRK" and its number, and the flux
--- of each revolution ends at or below E.
+-- RO-5, L-18: track t with entry e lies from start to end on a side that is held, has its track data header in place with "TRK" and its
+-- number, and the flux of each revolution ends at or below E.
 pub record TrackHolds (b : List ℕ) (e t : ℕ) : Type 0 where
   pub from : startTrack b ≤ t
   pub to : t ≤ endTrack b
@@ -42,7 +42,7 @@ pub record TrackHolds (b : List ℕ) (e t : ℕ) : Type 0 where
   pub number : byteAt b (e + 3) ≡ t
   pub flux : (k : ℕ) → k < revolutions b → fluxAt b e k + 2 * countAt b e k ≤ dataEnd b
 
--- The image obeys all that opening asks.
+-- RO-5, L-19, L-20: the image obeys all that opening asks; tracks, flux and strings may overlap, in any order, with other bytes between.
 pub record Opens (b : List ℕ) : Type 0 where
   pub least : tableEnd ≤ length b
   pub most : length b ≤ sizeLimit
@@ -57,6 +57,6 @@ pub record Opens (b : List ℕ) : Type 0 where
   pub footer : hasFooter b ≡ true → FooterHolds b
   pub tracks : (t : ℕ) → t < trackSlots → trackEntry b t ≢ 0 → TrackHolds b (trackEntry b t) t
 
--- Opening refuses exactly what does not obey.
+-- RO-5: opening refuses exactly what does not obey.
 abbrev pub OpensExactly : Type 0
 OpensExactly = (b : List ℕ) → (openFault b ≡ none) ↔ Opens b

@@ -6,7 +6,7 @@ ghost use Rattle.scp_tracks.specs.Tracks.{tracksFault};
 ghost use Rattle.scp_open.specs.Opening.{headerOf, refusedImage, openedOf};
 use refusals::Refusal;
 
-// The header's fields.
+// The header's fields (T-3).
 pub struct Header {
     pub version: u8,
     pub disk: u8,

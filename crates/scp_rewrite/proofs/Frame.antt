@@ -15,11 +15,11 @@ use Rattle.octets.specs.Sums.{byteSum}
 use Rattle.octets.proofs.Numbers.{Apart, byte-apart, byte-inside, drop-sets, le-same, le-apart, le-length, le-read-same, le-octets, sets-octets}
 use Rattle.scp_fields.specs.Header.{readWrite, storedSum, trueSum, trackEntry}
 use Rattle.scp_tracks.specs.Tracks.{revolutionAt, durationAt, countAt, fluxAt}
-use Rattle.scp_rewrite.specs.Extents.{extent, In}
+use Rattle.scp_sharing.specs.Extents.{extent, In}
 use Rattle.scp_rewrite.specs.Rewriting.{patched, moved, summed, rewritten}
 use Rattle.scp_rewrite.specs.Steps.{Patchable}
-use Rattle.scp_rewrite.specs.Sharing.{InNumbers, front, byItself}
-use Rattle.scp_rewrite.proofs.Accepted.{Accepted, unset}
+use Rattle.scp_sharing.specs.Sharing.{InNumbers, front, byItself}
+use Rattle.scp_sharing.proofs.Accepted.{Accepted, unset}
 
 -- ---- parts and stores
 
@@ -49,15 +49,15 @@ module _ (b : List ℕ) (e k d : ℕ) (ws : List ℕ) where
   abbrev at : ℕ
   at = revolutionAt e k
 
-  abbrev place : ℕ
-  place = fluxAt b e k
+  abbrev offset : ℕ
+  offset = fluxAt b e k
 
   abbrev n : ℕ
   n = length ws / 2
 
   -- after the store of the words, after that of the duration, and after all three
   abbrev worded : List ℕ
-  worded = sets b place ws
+  worded = sets b offset ws
 
   abbrev timed : List ℕ
   timed = sets worded at (leBytes 4 d)
@@ -76,7 +76,7 @@ module _ (b : List ℕ) (e k d : ℕ) (ws : List ℕ) where
   unfolding patched
   patched-duration small room =
       le-apart 4 (leBytes 4 n) timed (at + 4) at (inl (omega arith))
-      ∙ le-read-same 4 d worded at small (rw (length-sets b place ws) (omega arith))
+      ∙ le-read-same 4 d worded at small (rw (length-sets b offset ws) (omega arith))
 
   patched-count : n < 4_294_967_296 → at + 8 ≤ length b → countAt patch e k ≡ n
   unfolding patched
@@ -86,14 +86,14 @@ module _ (b : List ℕ) (e k d : ℕ) (ws : List ℕ) where
   unfolding patched
   patched-off i h = number-off n timed (at + 4) i (λ l. h (omega arith)) ∙ number-off d worded at i (λ l. h (omega arith))
 
-  patched-rest : (i : ℕ) → (In i (extent at 8) → ⊥) → (In i (extent place (length ws)) → ⊥) → byteAt patch i ≡ byteAt b i
-  patched-rest i h f = patched-off i h ∙ byte-apart ws b place i (outside place (length ws) i f)
+  patched-rest : (i : ℕ) → (In i (extent at 8) → ⊥) → (In i (extent offset (length ws)) → ⊥) → byteAt patch i ≡ byteAt b i
+  patched-rest i h f = patched-off i h ∙ byte-apart ws b offset i (outside offset (length ws) i f)
 
   patched-octets : Octets b → Octets ws → Octets patch
   unfolding patched
   patched-octets h g =
       sets-octets (leBytes 4 n) timed (at + 4)
-      (sets-octets (leBytes 4 d) worded at (sets-octets ws b place h g) (le-octets 4 d)) (le-octets 4 n)
+      (sets-octets (leBytes 4 d) worded at (sets-octets ws b offset h g) (le-octets 4 d)) (le-octets 4 n)
 
 -- ---- the checksum
 
@@ -149,7 +149,7 @@ module _ (b : List ℕ) (t k d : ℕ) (ws : List ℕ) (a : Accepted b t k ws) wh
   lies =
       let s = a .asks in
       let h = s .opens .tracks t (s .present .0) (s .present .1) in
-      let f = h .flux k (s .turn) in
+      let f = h .flux k (s .below) in
       record { most = s .opens .most; low = omega arith; high = omega arith; fluxLow = omega arith; fluxHigh = omega arith }
 
   pub rewritten-size : length q ≡ length b

@@ -1,8 +1,8 @@
-pub mod Meeting
-pub mod SharedBytes
-pub mod Accepted
 pub mod Frame
-pub mod Refusing
 pub mod Moving
 pub mod Patching
 pub mod Outcome
+pub mod Checksums
+pub mod Keeping
+pub mod Kept
+pub mod AfterRewrite

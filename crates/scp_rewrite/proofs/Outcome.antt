@@ -8,10 +8,11 @@ use borrow.Author.Tests.{eq-eqb, ne-eqb}
 use Rattle.refusals.specs.declared.Refusal.{Refusal}
 use Rattle.scp_fields.specs.Header.{trackEntry}
 use Rattle.scp.specs.Answers.{refused, numbers}
-use Rattle.scp_rewrite.specs.Rewriting.{rewriteFault, patched, summed, afterRewrite}
+use Rattle.scp_sharing.specs.RewriteFault.{rewriteFault}
+use Rattle.scp_rewrite.specs.Rewriting.{patched, summed, afterRewrite}
 use Rattle.scp_rewrite.specs.Answering.{rewriteAnswer}
 use Rattle.scp_rewrite.specs.Steps.{Patchable}
-use Rattle.scp_rewrite.proofs.Accepted.{accepted}
+use Rattle.scp_sharing.proofs.Accepted.{accepted}
 use Rattle.scp_rewrite.proofs.Frame.{lies}
 
 -- f is what refuses it

@@ -11,7 +11,7 @@ use borrow.Author.Tests.{le-leb}
 use Rattle.octets.specs.Numbers.{leBytes, putAt}
 use Rattle.octets.proofs.Numbers.{le-length}
 use Rattle.scp_fields.specs.Header.{readWrite, storedSum, trueSum}
-use Rattle.scp_tracks.specs.Tracks.{revolutionAt, distanceAt}
+use Rattle.scp_tracks.specs.Tracks.{revolutionAt, fluxAt}
 use Rattle.scp_rewrite.specs.Rewriting.{patched, moved, movedSum, summed}
 use Rattle.scp_rewrite.specs.Steps.{Patchable, Stored}
 use Rattle.scp_rewrite.proofs.Moving.{Moved, moved-next, moved-end}
@@ -19,17 +19,16 @@ use Rattle.scp_rewrite.proofs.Moving.{Moved, moved-next, moved-end}
 stored-size : {p vs q : List ℕ} {i s r : ℕ} → Stored p i vs s q r → length q ≡ length p
 stored-size {p} {vs} {q} {i} st = ap length (st .bytes) ∙ length-sets p i vs
 
--- x is the distance as it was read, v and w are the bytes of duration and count; p, q and r are what the stores leave
-module _ (b : List ℕ) (e k d : ℕ) (ws : List ℕ) {x : ℕ} {v w : List ℕ} (far : x ≡ distanceAt b e k) (time : v ≡ leBytes 4 d)
-    (count : w ≡ leBytes 4 (length ws / 2)) {p q r : List ℕ} {s₀ s₁ s₂ s₃ : ℕ} (first : Stored b (e + x) ws s₀ p s₁)
-    (second : Stored p (revolutionAt e k) v s₁ q s₂) (third : Stored q (revolutionAt e k + 4) w s₂ r s₃) where
+-- at and x are where record and flux were found, v and w are the bytes of duration and count; p, q and r are what the stores leave
+module _ (b : List ℕ) (e k d : ℕ) (ws : List ℕ) {at x : ℕ} {v w : List ℕ} (here : at ≡ revolutionAt e k) (far : x ≡ fluxAt b e k)
+    (time : v ≡ leBytes 4 d) (count : w ≡ leBytes 4 (length ws / 2)) {p q r : List ℕ} {s₀ s₁ s₂ s₃ : ℕ} (first : Stored b x ws s₀ p s₁)
+    (second : Stored p at v s₁ q s₂) (third : Stored q (at + 4) w s₂ r s₃) where
   pub patch-left : r ≡ patched b e k d ws
   unfolding patched
   patch-left = cc
 
   pub patch-moved : Patchable b e k (length ws) → s₀ ≡ storedSum b → s₃ < 4_294_967_296 → s₃ ≡ movedSum b (patched b e k d ws)
   patch-moved h stored small =
-      let at = revolutionAt e k in
       let long : length v ≡ 4 = ap length time ∙ le-length 4 d in
       let wide : length w ≡ 4 = ap length count ∙ le-length 4 (length ws / 2) in
       let n₁ = stored-size first in
@@ -38,7 +37,7 @@ module _ (b : List ℕ) (e k d : ℕ) (ws : List ℕ) {x : ℕ} {v w : List ℕ}
       let high = h .high in
       let fluxLow = h .fluxLow in
       let fluxHigh = h .fluxHigh in
-      let f₁ : Moved b s₀ p s₁ = moved-next b b ws p (e + x) s₀ s₀ s₁ (omega arith) (omega arith) refl first in
+      let f₁ : Moved b s₀ p s₁ = moved-next b b ws p x s₀ s₀ s₁ (omega arith) (omega arith) refl first in
       let f₂ : Moved b s₀ q s₂ = moved-next b p v q at s₀ s₁ s₂ (omega arith) (omega arith) f₁ second in
       let f₃ : Moved b s₀ r s₃ = moved-next b q w r (at + 4) s₀ s₂ s₃ (omega arith) (omega arith) f₂ third in
       moved-end b r s₀ s₃ small f₃

@@ -160,10 +160,10 @@ fn print_intervals(image: &[u8], t: u32, k: u32) {
 }
 
 fn revolution_fields(d: RevolutionData) {
-    let place = d.place;
+    let offset = d.offset;
     number_32(d.duration);
     number_32(d.words);
-    number(place.0);
+    number(offset.0);
 }
 
 fn print_flux(image: &[u8], t: u32, k: u32) {
@@ -202,10 +202,10 @@ fn print_speeds(image: &[u8], t: u32) {
 }
 
 fn track_fields(d: TrackData) {
-    let place = d.place;
+    let offset = d.offset;
     number_32(d.cylinder);
     number_32(d.head);
-    number(place.0);
+    number(offset.0);
     number_32(d.revolutions);
 }
 

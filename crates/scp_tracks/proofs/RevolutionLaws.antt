@@ -1,32 +1,41 @@
--- A revolution is present where its number is below the image's, and its place is the exact sum.
+-- A revolution is present where its number is below the image's, and its offset is the exact sum.
 use Prim.Native.Nat.{ℕ, _+_, _<_, _≤_}
-use mathlib.Core.Path.{_≡_, refl, sym, ap}
+use mathlib.Core.Path.{_≡_, sym, ap, _∙_}
 use mathlib.Core.List.{List}
-use mathlib.Core.Bool.{true, or-true}
+use mathlib.Core.Bool.{true, false, or-true}
 use native.Mathlib.Omega.{arith}
-use borrow.Author.Tests.{lt-ltb, le-ltb, le-leb}
+use lib.ListN.{length}
+use lib.Dec.{ltb}
+use borrow.Author.Tests.{lt-ltb, le-ltb, le-leb, lt-leb, ltb-false}
+use Rattle.refusals.specs.Refusals.{refuseIf}
 use Rattle.scp_fields.specs.Header.{tableEnd, revolutions, dataEnd}
+use Rattle.refusals.proofs.Finding.{neither}
 use Rattle.scp_tracks.specs.Tracks.{offsetOf, headerSize, badMark, badTrack}
-use Rattle.scp_tracks.specs.Revolutions.{dataOf, revolutionOf}
+use Rattle.scp_tracks.specs.Revolutions.{recordOf, dataOf, revolutionOf, ofPresence, revolutionFault}
 use Rattle.scp_tracks.specs.declared.FileOffset.{FileOffset}
 use Rattle.scp_tracks.specs.declared.RevolutionData.{RevolutionData}
 use Rattle.scp_tracks.specs.declared.Revolution.the-variants.{Absent, Present}
 
 -- a revolution's numbers, one by one
 pub data-is : {d d′ w w′ : ℕ} {p : FileOffset} {n : ℕ} → d ≡ d′ → w ≡ w′ → p .0 ≡ n
-    → _≡_ {A = RevolutionData} (record { duration = d; words = w; place = p }) (record { duration = d′; words = w′; place = record { 0 = n } })
+    → _≡_ {A = RevolutionData} (record { duration = d; words = w; offset = p }) (record { duration = d′; words = w′; offset = record { 0 = n } })
 data-is {d} {d′} {w} {w′} {p} {n} e f g =
     let q : p ≡ record { 0 = n } = ap (λ (x : ℕ). record { 0 = x }) g in
     cc
 
-module _ (b : List ℕ) (e k : ℕ) where
-  pub absent : revolutions b ≤ k → Absent ≡ revolutionOf b e k
-  unfolding revolutionOf
-  absent h = sym (simp (le-ltb k (revolutions b) h))
+-- revolution k is absent or present, and so refused or not
+-- records with equal numbers
+pub record-same : (e : ℕ) {d d′ w w′ by by′ : ℕ} → d ≡ d′ → w ≡ w′ → by ≡ by′ → recordOf e d w by ≡ recordOf e d′ w′ by′
+record-same e f g h = data-is f g (ap (λ (x : ℕ). e + x) h)
 
-  pub present : k < revolutions b → Present (dataOf b e k) ≡ revolutionOf b e k
-  unfolding revolutionOf
-  present h = sym (simp (lt-ltb k (revolutions b) h))
+module _ (b : List ℕ) (e k : ℕ) where
+  pub absent : revolutions b ≤ k → (Absent ≡ revolutionOf b e k) × (ofPresence Absent ≡ revolutionFault b k)
+  unfolding revolutionOf refuseIf
+  absent h = (sym (simp (le-ltb k (revolutions b) h)), sym (simp (le-leb (revolutions b) k h)))
+
+  pub present : {d : RevolutionData} → d ≡ dataOf b e k → k < revolutions b → (Present d ≡ revolutionOf b e k) × (ofPresence (Present d) ≡ revolutionFault b k)
+  unfolding revolutionOf refuseIf
+  present q h = (ap Present q ∙ sym (simp (lt-ltb k (revolutions b) h)), sym (simp (lt-leb (revolutions b) k h)))
 
 -- ---- a track data header at e, of track t
 
@@ -42,6 +51,14 @@ module _ (b : List ℕ) (e t : ℕ) where
   pub track-in : tableEnd ≤ e → e + headerSize b ≤ dataEnd b → badMark b e t ≡ badTrack b e t
   unfolding badTrack
   track-in l h = sym (simp (le-ltb _ _ l, le-ltb _ _ h))
+
+  -- one that is not bad lies inside the image
+  pub track-inside : badTrack b e t ≡ false → e + headerSize b ≤ length b
+  unfolding badTrack
+  track-inside h =
+      let past = neither (ltb (dataEnd b) (e + headerSize b)) _ (neither (ltb e tableEnd) _ h .1) .0 in
+      let below = ltb-false (dataEnd b) (e + headerSize b) past in
+      omega arith
 
 -- ---- offsets
 

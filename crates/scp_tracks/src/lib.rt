@@ -3,11 +3,13 @@
 ghost use mathlib.Core.Path.{_≡_};
 ghost use Prim.Native.Nat.{_+_, _<_, _≤_};
 ghost use lib.ListN.{length};
+ghost use Rattle.octets.specs.Numbers.{le32At};
 ghost use Rattle.scp_tracks.specs.Tracks.{
   cylinderOf,
   headOf,
   offsetOf,
   recordOffset,
+  revolutionAt,
   headerSize,
   badSlot,
   badMark,
@@ -16,15 +18,15 @@ ghost use Rattle.scp_tracks.specs.Tracks.{
   badFlux,
   trackFaultAt,
 };
-ghost use Rattle.scp_tracks.specs.Revolutions.{dataOf, revolutionOf};
+ghost use Rattle.scp_tracks.specs.Revolutions.{recordOf, dataOf, revolutionOf, ofPresence, revolutionFault};
 use refusals::Refusal;
 
 // ---- offsets
 
-// A place in the file.
+// A file offset (L-16).
 pub struct FileOffset(pub u64);
 
-// A distance from a track data header.
+// A distance from a track data header (L-16).
 pub struct HeaderOffset(pub u32);
 
 // Where a distance from the track data header at `header` lies in the file: the exact sum, or the largest number where 64 bits do not hold it.
@@ -56,11 +58,16 @@ pub fn head(track: u32) -> u32
 
 // ---- the track data header and its records
 
+// The bytes of the mark with the track's number, and of a revolution's record.
+const MARK_SIZE: usize = 4;
+
+const RECORD_SIZE: usize = 12;
+
 // Where the record of revolution k stands in its track data header, behind the mark, the number and the records before it.
 pub fn record_offset(k: u32) -> usize
     ensures { λ r. ⌜ r ≡ recordOffset k ⌝ }
 {
-    4 + 12 * (k as usize)
+    MARK_SIZE + RECORD_SIZE * (k as usize)
 }
 
 // The bytes of a track data header.
@@ -74,25 +81,73 @@ pub fn header_size(image: &[u8]) -> usize
 pub struct RevolutionData {
     pub duration: u32,
     pub words: u32,
-    pub place: FileOffset,
+    pub offset: FileOffset,
 }
 
-// The record of revolution k of the track data header at `header`: every reading of a record goes by it.
-pub fn revolution_data(image: &[u8], header: u32, k: u32) -> RevolutionData
-    ensures { λ r. ⌜ (r ≡ dataOf (now (image .entry)) header k) × (r .place .0 < 8_589_934_592) ⌝ }
+fn wide(x: u8) -> u32
+    ensures { λ r. ⌜ (r ≡ x) × (r < 256) ⌝ }
+{
+    x as u32
+}
+
+// The 32-bit number at an offset, where its four bytes are all there.
+fn inner32(image: &[u8], at: usize) -> u32
+    requires { ⌜ at + 4 ≤ length (now image) ⌝ }
+    ensures { λ r. ⌜ r ≡ le32At (now (image .entry)) at ⌝ }
+{
+    wide(image[at])
+        + 256 * wide(image[at + 1])
+        + 65_536 * wide(image[at + 2])
+        + 16_777_216 * wide(image[at + 3])
+}
+
+// The numbers of a record of the track data header at `header`.
+fn record_of(header: u32, duration: u32, words: u32, distance: u32) -> RevolutionData
+    ensures { λ r. ⌜ (r ≡ recordOf header duration words distance) × (r .offset .0 < 8_589_934_592) ⌝ }
+{
+    let offset = file_offset(FileOffset(header as u64), HeaderOffset(distance));
+    RevolutionData {
+        duration,
+        words,
+        offset,
+    }
+}
+
+// The record of revolution k of the track data header at `header`, where it lies inside the image: no further test of bounds.
+fn inner_record(image: &[u8], header: u32, k: u32) -> RevolutionData
+    requires { ⌜ revolutionAt header k + 12 ≤ length (now image) ⌝ }
+    ensures { λ r. ⌜ (r ≡ dataOf (now (image .entry)) header k) × (r .offset .0 < 8_589_934_592) ⌝ }
+{
+    let at = header as usize + record_offset(k);
+    let duration = inner32(image, at);
+    let words = inner32(image, at + 4);
+    let distance = inner32(image, at + 8);
+    record_of(header, duration, words, distance)
+}
+
+// The same where it does not: past the end a byte reads 0.
+fn outer_record(image: &[u8], header: u32, k: u32) -> RevolutionData
+    ensures { λ r. ⌜ (r ≡ dataOf (now (image .entry)) header k) × (r .offset .0 < 8_589_934_592) ⌝ }
 {
     let at = header as usize + record_offset(k);
     let duration = octets::le32(image, at);
     let words = octets::le32(image, at + 4);
     let distance = octets::le32(image, at + 8);
-    let place = file_offset(FileOffset(header as u64), HeaderOffset(distance));
-    RevolutionData {
-        duration,
-        words,
-        place,
-    }
+    record_of(header, duration, words, distance)
 }
 
+// The record of revolution k of the track data header at `header`: every reading of a record goes by it.
+pub fn revolution_data(image: &[u8], header: u32, k: u32) -> RevolutionData
+    ensures { λ r. ⌜ (r ≡ dataOf (now (image .entry)) header k) × (r .offset .0 < 8_589_934_592) ⌝ }
+{
+    let end = header as usize + record_offset(k) + RECORD_SIZE;
+    if end <= image.len() {
+        return inner_record(image, header, k);
+    }
+    outer_record(image, header, k)
+}
+
+// A revolution of a track: absent, or present with its numbers (T-6).
 pub enum Revolution {
     Absent,
     Present(RevolutionData),
@@ -100,7 +155,7 @@ pub enum Revolution {
 
 // Revolution k of the track data header at `header`: absent where the image has no more revolutions.
 pub fn revolution_at(image: &[u8], header: u32, k: u32) -> Revolution
-    ensures { λ r. ⌜ r ≡ revolutionOf (now (image .entry)) header k ⌝ }
+    ensures { λ r. ⌜ (r ≡ revolutionOf (now (image .entry)) header k) × (ofPresence r ≡ revolutionFault (now (image .entry)) k) ⌝ }
 {
     if scp_fields::revolutions(image) <= k as usize {
         return Revolution::Absent;
@@ -109,12 +164,6 @@ pub fn revolution_at(image: &[u8], header: u32, k: u32) -> Revolution
 }
 
 // ---- refusals 9 to 11
-
-fn wide(x: u8) -> u32
-    ensures { λ r. ⌜ (r ≡ x) × (r < 256) ⌝ }
-{
-    x as u32
-}
 
 // Whether a track lies outside the span or on a side that is not held.
 fn bad_slot(image: &[u8], t: u32) -> bool
@@ -152,14 +201,16 @@ fn bad_track(image: &[u8], e: usize, t: u32) -> bool
 
 // Whether the flux of revolution k of the track data header at e ends past the data.
 fn flux_past(image: &[u8], e: u32, k: u32) -> bool
+    requires { ⌜ revolutionAt e k + 12 ≤ length (now image) ⌝ }
     ensures { λ r. ⌜ r ≡ fluxPast (now (image .entry)) e k ⌝ }
 {
-    let data = revolution_data(image, e, k);
-    (scp_fields::data_end(image) as u64) < data.place.0 + 2 * (data.words as u64)
+    let data = inner_record(image, e, k);
+    (scp_fields::data_end(image) as u64) < data.offset.0 + 2 * (data.words as u64)
 }
 
 // Whether the flux of a revolution of the track data header at e ends past the data.
 fn bad_flux(image: &[u8], e: u32) -> bool
+    requires { ⌜ e + headerSize (now image) ≤ length (now image) ⌝ }
     ensures { λ r. ⌜ r ≡ badFlux (now (image .entry)) e ⌝ }
 {
     let n = scp_fields::revolutions(image) as u32;

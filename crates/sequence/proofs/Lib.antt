@@ -1,7 +1,3 @@
-pub mod Keeping
-pub mod Checksums
-pub mod EverySequence
-pub mod RowLaws
-pub mod NoNan
+pub mod CallLaws
 pub mod Running
 pub mod ReplayLaws

@@ -6,9 +6,17 @@ use native.Mathlib.Omega.{arith}
 use lib.ListN.{length}
 use lib.Seq.{sets}
 use Rattle.flux.proofs.Wrote.{Wrote, start, retell, moved, put-run}
-use Rattle.sequence.specs.Book.{Call, answer, after, finalBytes, answers}
-use Rattle.sequence.specs.Rows.{callAt, callsFrom, callsOf, rowOf, rowsOf}
-use Rattle.sequence.proofs.RowLaws.{row-length, rows-length, answers-length, calls-length}
+use Rattle.scp.specs.Answers.{Answer}
+use Rattle.scp_book.specs.Book.{Call, answer, after, finalBytes, answers}
+use Rattle.scp_rows.specs.Rows.{rowOf}
+use Rattle.scp_rows.proofs.RowLaws.{row-length}
+use Rattle.sequence.specs.Calls.{callAt, callsFrom, callsOf, rowsOf}
+use Rattle.sequence.proofs.CallLaws.{rows-length, answers-length, calls-length}
+
+-- the row of call i lies within the places for n
+pub row-fits : (a : Answer) (d d₀ : List ℕ) {row : List ℕ} (i n : ℕ) → row ≡ rowOf a → 16 * n ≤ length d₀ → length d ≡ length d₀ → i < n
+    → 16 * i + length row ≤ length d
+row-fits a d d₀ i n e places same below = let size = ap length e ∙ row-length a in omega arith
 
 module _ (calls words : List ℕ) where
   calls-next : (i n : ℕ) → i < n → callsFrom calls words i (n - i) ≡ callAt calls words i ∷ callsFrom calls words (i + 1) (n - (i + 1))

@@ -1,4 +1,2 @@
-pub mod Book
-pub mod Claim
-pub mod Rows
+pub mod Calls
 pub mod Replaying

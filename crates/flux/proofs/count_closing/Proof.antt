@@ -6,7 +6,7 @@ use lib.ListN.{drop}
 use borrow.Author.Needs.{needs}
 use Rattle.flux.specs.Coding.{wordsOf}
 use Rattle.flux.specs.Reading.{closingWords}
-use Rattle.flux.proofs.AtWord.{closing-zero, closing-close, closing-end}
+use Rattle.flux.proofs.WordLaws.{closing-zero, closing-close, closing-end}
 use Rattle.flux.proofs.count_closing.Statement.{statement}
 use Rattle.flux.proofs.count_closing.Tie as tie
 

@@ -8,7 +8,7 @@ use borrow.Author.Needs.{needs}
 use borrow.Author.Tests.{le-leb}
 use Rattle.flux.specs.Coding.{wordsOf}
 use Rattle.flux.specs.Reading.{intervals}
-use Rattle.flux.proofs.AtWord.{length-words}
+use Rattle.flux.proofs.WordLaws.{length-words}
 use Rattle.flux.proofs.Counting.{counted, at-most-words}
 use Rattle.flux.proofs.enough_places.Statement.{statement}
 use Rattle.flux.proofs.enough_places.Tie as tie

@@ -8,7 +8,7 @@ use lib.ListN.{length, drop}
 use borrow.Author.Needs.{needs}
 use Rattle.flux.specs.Coding.{wordsOf}
 use Rattle.flux.specs.Reading.{zeroTicks, intervals, openTime}
-use Rattle.flux.proofs.AtWord.{intervals-zero, intervals-close, intervals-end, open-zero, open-close, open-end}
+use Rattle.flux.proofs.WordLaws.{intervals-zero, intervals-close, intervals-end, open-zero, open-close, open-end}
 use Rattle.flux.proofs.Wrote.{Wrote, start, retell, below, put, filled, whole-is}
 use Rattle.flux.proofs.fill.Statement.{statement}
 use Rattle.flux.proofs.fill.Tie as tie

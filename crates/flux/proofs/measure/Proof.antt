@@ -10,7 +10,8 @@ use borrow.Author.Tests.{lt-ltb, le-ltb}
 use Rattle.flux.specs.Coding.{bytesOf}
 use Rattle.flux.specs.Writing.{wordsFor, firstInexpressible}
 use Rattle.flux.specs.Answers.{refused, gives, timeRefused}
-use Rattle.flux.proofs.AtTime.{expressed, length-bytes, first-here, first-next, first-end, size-next, words-end}
+use Rattle.flux.proofs.TimeLaws.{expressed, length-bytes, first-here, first-next, first-end, size-next, words-end}
+use Rattle.flux.proofs.AnswerLaws.{refused-by}
 use Rattle.flux.proofs.measure.Statement.{statement}
 use Rattle.flux.proofs.measure.Tie as tie
 
@@ -96,29 +97,36 @@ loop-again-2 c =
     let over = above (c .if2 .left) in
     (omega arith, omega arith, λ h. absurd (omega arith), λ h. over, omega arith)
 
+refuse-requires : tie.Need-refuse-requires Inv-loop μ-loop
+refuse-requires c κs = search needs
+
 returns : tie.Need-returns Inv-loop μ-loop
 returns c =
-    let at-call = c .before in
+    let at-call = c .before .before in
     let at-loop = at-call .before .before .before in
     let ts = at-loop .before .before .args .times .now in
     let i = at-loop .loop .i in
-    let first = first-here ts i (omega arith) (sym (at-call .can-express .ensures) ∙ c .if1 .left) in
+    let first = first-here ts i (omega arith) (sym (at-call .can-express .ensures) ∙ c .before .if1 .left) in
     let e : firstInexpressible ts ≡ i = omega arith in
     let h : firstInexpressible ts < length ts = omega arith in
-    simp (lt-ltb _ _ h) (ap (refused timeRefused) (sym e))
+    simp (lt-ltb _ _ h) (refused-by (c .refuse .ensures) ∙ ap (refused timeRefused) (sym e))
+
+refuse-requires-2 : tie.Need-refuse-requires-2 Inv-loop μ-loop
+refuse-requires-2 c κs = search needs
 
 returns-2 : tie.Need-returns-2 Inv-loop μ-loop
 returns-2 c =
-    let at-loop = c .before .before in
+    let at-test = c .before .before in
+    let at-loop = at-test .before in
     let ts = at-loop .before .before .args .times .now in
     let i = at-loop .loop .i in
-    let first = first-end ts i (c .before .loop-test .left) in
-    let rest = ap length (words-end ts i (c .before .loop-test .left)) in
+    let first = first-end ts i (at-test .loop-test .left) in
+    let rest = ap length (words-end ts i (at-test .loop-test .left)) in
     let bytes = length-bytes (wordsFor ts) in
     let all : length ts ≤ firstInexpressible ts = omega arith in
-    let over = at-loop .loop .inv .3 (c .if3 .taken) in
+    let over = at-loop .loop .inv .3 (c .before .if3 .taken) in
     let h : at-loop .before .before .args .room < length (bytesOf (wordsFor ts)) = omega arith in
-    simp (le-ltb _ _ all, lt-ltb _ _ h)
+    simp (le-ltb _ _ all, lt-ltb _ _ h) (refused-by (c .refuse2 .ensures))
 
 mul-bytes : tie.Need-mul-bytes Inv-loop μ-loop
 mul-bytes c = search needs
@@ -154,7 +162,9 @@ measure-spec =
     loop-again
     loop-less-2
     loop-again-2
+    refuse-requires
     returns
+    refuse-requires-2
     returns-2
     mul-bytes
     returns-3)

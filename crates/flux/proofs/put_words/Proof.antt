@@ -10,7 +10,7 @@ use Rattle.octets.specs.Numbers.{be16Bytes}
 use Rattle.flux.specs.Coding.{bytesOf}
 use Rattle.flux.specs.Reading.{zeroTicks}
 use Rattle.flux.specs.Writing.{wordsFor}
-use Rattle.flux.proofs.AtTime.{bytes-next, bytes-end}
+use Rattle.flux.proofs.TimeLaws.{bytes-next, bytes-end}
 use Rattle.flux.proofs.Wrote.{Wrote, start, retell, moved, below, put, below-run, put-run, whole-is}
 use Rattle.flux.proofs.put_words.Statement.{statement}
 use Rattle.flux.proofs.put_words.Tie as tie

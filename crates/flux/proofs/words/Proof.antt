@@ -3,7 +3,7 @@ use mathlib.Core.Path.{sym, ap, _∙_}
 use lib.ListN.{length}
 use borrow.Author.Needs.{needs}
 use Rattle.flux.specs.Answers.{ofWritten, bufferAfter, writing}
-use Rattle.flux.proofs.Answered.{written-fits, refused-keeps}
+use Rattle.flux.proofs.AnswerLaws.{written-fits, refused-keeps}
 use Rattle.flux.proofs.words.Statement.{statement}
 use Rattle.flux.proofs.words.Tie as tie
 

@@ -28,8 +28,8 @@ part-result-end c = search needs
 returns : tie.Need-returns
 returns c =
     let a = c .before .before .before .args in
-    let n : a .numbers .place .0 + 2 * a .numbers .words - a .numbers .place .0 ≡ 2 * a .numbers .words = omega arith in
-    (ap (λ (k : ℕ). take k (drop (a .numbers .place .0) (a .image .now))) n, refl)
+    let n : a .numbers .offset .0 + 2 * a .numbers .words - a .numbers .offset .0 ≡ 2 * a .numbers .words = omega arith in
+    (ap (λ (k : ℕ). take k (drop (a .numbers .offset .0) (a .image .now))) n, refl)
 
 pub part-of-spec : {M : Type 1} → statement M
 part-of-spec =

@@ -1,8 +1,8 @@
 -- The numbers put, or the refusal returned, are those of the answer which the call gives.
 use mathlib.Core.Path.{sym, ap, _∙_}
 use Rattle.scp.specs.Answers.{ofFooter}
-use Rattle.scp_c.specs.Boundary.{numbersOf}
-use Rattle.scp_c.proofs.Passing.{pass-values, pass-refusal}
+use Rattle.scp_boundary.specs.Boundary.{gives, numbersOf}
+use Rattle.scp_boundary.proofs.CodeAndBuffer.{pass-values, pass-refusal}
 use borrow.Author.Needs.{needs}
 use Rattle.scp_c.proofs.scp_footer.Statement.{statement}
 use Rattle.scp_c.proofs.scp_footer.Tie as tie
@@ -48,7 +48,7 @@ returns c =
     let at-call = at-told .before .before in
     let start = at-call .before .before .before in
     let found = ap ofFooter (sym (at-told .found .given .1)) ∙ at-call .footer .ensures in
-    pass-values (start .args .out .now) (at-numbers .footer-numbers .ensures ∙ ap numbersOf found) (at-give .give .ensures)
+    pass-values (start .args .out .now) (ap gives (at-numbers .footer-numbers .ensures) ∙ ap numbersOf found) (at-give .give .ensures)
 
 same-length-2 : tie.Need-same-length-2
 same-length-2 c = search needs

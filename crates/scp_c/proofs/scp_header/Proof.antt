@@ -1,8 +1,8 @@
 -- The numbers put, or the refusal returned, are those of the answer which the call gives.
 use mathlib.Core.Path.{sym, ap, _∙_}
 use Rattle.scp.specs.Answers.{ofHeader}
-use Rattle.scp_c.specs.Boundary.{numbersOf}
-use Rattle.scp_c.proofs.Passing.{pass-values, pass-refusal}
+use Rattle.scp_boundary.specs.Boundary.{gives, numbersOf}
+use Rattle.scp_boundary.proofs.CodeAndBuffer.{pass-values, pass-refusal}
 use borrow.Author.Needs.{needs}
 use Rattle.scp_c.proofs.scp_header.Statement.{statement}
 use Rattle.scp_c.proofs.scp_header.Tie as tie
@@ -13,32 +13,8 @@ header-requires c κs = search needs
 enum-known-found : tie.Need-enum-known-found
 enum-known-found c = search needs
 
-cast-t8 : tie.Need-cast-t8
-cast-t8 c = search needs
-
-cast-t9 : tie.Need-cast-t9
-cast-t9 c = search needs
-
-cast-t10 : tie.Need-cast-t10
-cast-t10 c = search needs
-
-cast-t11 : tie.Need-cast-t11
-cast-t11 c = search needs
-
-cast-t12 : tie.Need-cast-t12
-cast-t12 c = search needs
-
-cast-t13 : tie.Need-cast-t13
-cast-t13 c = search needs
-
-cast-t14 : tie.Need-cast-t14
-cast-t14 c = search needs
-
-cast-t15 : tie.Need-cast-t15
-cast-t15 c = search needs
-
-cast-t16 : tie.Need-cast-t16
-cast-t16 c = search needs
+header-numbers-requires : tie.Need-header-numbers-requires
+header-numbers-requires c κs = search needs
 
 slice-aggregate-give : tie.Need-slice-aggregate-give
 slice-aggregate-give c = search needs
@@ -58,11 +34,12 @@ same-length c = search needs
 returns : tie.Need-returns
 returns c =
     let at-give = c .before .before in
-    let at-told = at-give .before .before .before .before .before .before .before .before .before .before .before .before .before in
+    let at-numbers = at-give .before .before .before in
+    let at-told = at-numbers .before .before in
     let at-call = at-told .before .before in
     let start = at-call .before .before .before in
     let found = ap ofHeader (sym (at-told .found .given .1)) ∙ at-call .header .ensures in
-    pass-values (start .args .out .now) (ap numbersOf found) (at-give .give .ensures)
+    pass-values (start .args .out .now) (ap gives (at-numbers .header-numbers .ensures) ∙ ap numbersOf found) (at-give .give .ensures)
 
 returns-2 : tie.Need-returns-2
 returns-2 c =
@@ -78,15 +55,7 @@ scp-header-spec =
     (tie.spec
     header-requires
     enum-known-found
-    cast-t8
-    cast-t9
-    cast-t10
-    cast-t11
-    cast-t12
-    cast-t13
-    cast-t14
-    cast-t15
-    cast-t16
+    header-numbers-requires
     slice-aggregate-give
     give-requires
     enum-known-found-2

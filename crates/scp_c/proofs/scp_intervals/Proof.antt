@@ -2,8 +2,8 @@
 use mathlib.Core.Path.{sym, ap, _∙_}
 use lib.Seq.{length-take-le}
 use Rattle.flux.specs.Answers.{ofFilled}
-use Rattle.scp_c.specs.Boundary.{codeOf, outAfter}
-use Rattle.scp_c.proofs.Lending.{reading-values, reading-after}
+use Rattle.scp_boundary.specs.Boundary.{codeOf, outAfter}
+use Rattle.scp_boundary.proofs.LentPlaces.{reading-values, reading-after}
 use borrow.Author.Needs.{needs}
 use Rattle.scp_c.proofs.scp_intervals.Statement.{statement}
 use Rattle.scp_c.proofs.scp_intervals.Tie as tie

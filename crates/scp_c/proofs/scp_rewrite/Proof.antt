@@ -2,7 +2,7 @@
 use mathlib.Core.Path.{sym, ap, _∙_}
 use Rattle.scp.specs.Answers.{Answer}
 use Rattle.scp_rewrite.specs.Answering.{ofRewritten}
-use Rattle.scp_c.specs.Boundary.{codeOf, numbersOf}
+use Rattle.scp_boundary.specs.Boundary.{codeOf, numbersOf}
 use borrow.Author.Needs.{needs}
 use Rattle.scp_c.proofs.scp_rewrite.Statement.{statement}
 use Rattle.scp_c.proofs.scp_rewrite.Tie as tie

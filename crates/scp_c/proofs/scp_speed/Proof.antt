@@ -1,8 +1,8 @@
 -- The floats are those of the answer which the call gives, in each of its cases.
 use mathlib.Core.Path.{sym, ap, _∙_}
 use Rattle.scp.specs.Answers.{ofSpeed}
-use Rattle.scp_c.specs.Boundary.{floatsOf}
-use Rattle.scp_c.proofs.Passing.{pass-values, pass-refusal}
+use Rattle.scp_boundary.specs.Boundary.{floatsOf}
+use Rattle.scp_boundary.proofs.CodeAndBuffer.{pass-values, pass-refusal}
 use borrow.Author.Needs.{needs}
 use Rattle.scp_c.proofs.scp_speed.Statement.{statement}
 use Rattle.scp_c.proofs.scp_speed.Tie as tie

@@ -1,8 +1,8 @@
 -- The numbers are those of the step, in each of its cases.
 use mathlib.Core.Path.{sym, ap, _∙_}
 use Rattle.flux.specs.Answers.{ofStep}
-use Rattle.scp_c.specs.Boundary.{stepNumbers}
-use Rattle.scp_c.proofs.Passing.{pass-values, pass-refusal}
+use Rattle.scp_boundary.specs.Boundary.{stepNumbers}
+use Rattle.scp_boundary.proofs.CodeAndBuffer.{pass-values, pass-refusal}
 use borrow.Author.Needs.{needs}
 use Rattle.scp_c.proofs.scp_step.Statement.{statement}
 use Rattle.scp_c.proofs.scp_step.Tie as tie

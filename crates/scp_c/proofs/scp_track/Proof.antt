@@ -1,8 +1,8 @@
 -- The numbers put, or the refusal returned, are those of the answer which the call gives.
 use mathlib.Core.Path.{sym, ap, _∙_}
 use Rattle.scp.specs.Answers.{ofTrack}
-use Rattle.scp_c.specs.Boundary.{numbersOf}
-use Rattle.scp_c.proofs.Passing.{pass-values, pass-refusal}
+use Rattle.scp_boundary.specs.Boundary.{gives, numbersOf}
+use Rattle.scp_boundary.proofs.CodeAndBuffer.{pass-values, pass-refusal}
 use borrow.Author.Needs.{needs}
 use Rattle.scp_c.proofs.scp_track.Statement.{statement}
 use Rattle.scp_c.proofs.scp_track.Tie as tie
@@ -13,14 +13,8 @@ track-requires c κs = search needs
 enum-known-found : tie.Need-enum-known-found
 enum-known-found c = search needs
 
-cast-t9 : tie.Need-cast-t9
-cast-t9 c = search needs
-
-cast-t10 : tie.Need-cast-t10
-cast-t10 c = search needs
-
-cast-t11 : tie.Need-cast-t11
-cast-t11 c = search needs
+track-numbers-requires : tie.Need-track-numbers-requires
+track-numbers-requires c κs = search needs
 
 slice-aggregate-give : tie.Need-slice-aggregate-give
 slice-aggregate-give c = search needs
@@ -40,11 +34,12 @@ same-length c = search needs
 returns : tie.Need-returns
 returns c =
     let at-give = c .before .before in
-    let at-told = at-give .before .before .before .before .before .before .before in
+    let at-numbers = at-give .before .before .before in
+    let at-told = at-numbers .before .before in
     let at-call = at-told .before .before in
     let start = at-call .before .before .before in
     let found = ap ofTrack (sym (at-told .found .given .1)) ∙ at-call .track .ensures in
-    pass-values (start .args .out .now) (ap numbersOf found) (at-give .give .ensures)
+    pass-values (start .args .out .now) (ap gives (at-numbers .track-numbers .ensures) ∙ ap numbersOf found) (at-give .give .ensures)
 
 returns-2 : tie.Need-returns-2
 returns-2 c =
@@ -60,9 +55,7 @@ scp-track-spec =
     (tie.spec
     track-requires
     enum-known-found
-    cast-t9
-    cast-t10
-    cast-t11
+    track-numbers-requires
     slice-aggregate-give
     give-requires
     enum-known-found-2

@@ -3,8 +3,8 @@ use mathlib.Core.Path.{sym, ap, _∙_}
 use mathlib.Core.List.{[], _∷_}
 use lib.Ieee.{Float}
 use Rattle.scp.specs.Answers.{ofTrackSpeed}
-use Rattle.scp_c.specs.Boundary.{gives, floatsOf}
-use Rattle.scp_c.proofs.Passing.{pass-values, pass-refusal, first-same}
+use Rattle.scp_boundary.specs.Boundary.{gives, floatsOf}
+use Rattle.scp_boundary.proofs.CodeAndBuffer.{pass-values, pass-refusal, first-same}
 use borrow.Author.Needs.{needs}
 use Rattle.scp_c.proofs.scp_track_speed.Statement.{statement}
 use Rattle.scp_c.proofs.scp_track_speed.Tie as tie

@@ -1,7 +1,7 @@
 -- The number is that of the answer which the call gives, in each of its cases.
 use mathlib.Core.Path.{sym, ap, _∙_}
 use Rattle.scp.specs.Answers.{Answer, ofValidated}
-use Rattle.scp_c.specs.Boundary.{codeOf, numbersOf}
+use Rattle.scp_boundary.specs.Boundary.{codeOf, numbersOf}
 use borrow.Author.Needs.{needs}
 use Rattle.scp_c.proofs.scp_validate.Statement.{statement}
 use Rattle.scp_c.proofs.scp_validate.Tie as tie

@@ -2,8 +2,8 @@
 use mathlib.Core.Path.{sym, ap, _∙_}
 use Prim.Native.Nat.{ℕ}
 use borrow.Author.Needs.{needs}
-use Rattle.scp_tracks.specs.Revolutions.{dataOf}
-use Rattle.scp_lookup.proofs.FoundLaws.{found-at, not-found, absent-is, present-is, no-track, absent-refused, revolution-found}
+use Rattle.scp_tracks.specs.Revolutions.{dataOf, ofPresence}
+use Rattle.scp_lookup.proofs.FoundLaws.{found-at, not-found, present-is, no-track, absent-refused, revolution-found}
 use Rattle.scp_lookup.proofs.find_revolution.Statement.{statement}
 use Rattle.scp_lookup.proofs.find_revolution.Tie as tie
 
@@ -31,8 +31,8 @@ returns c =
     let at-found = at-read .before .before in
     let at-find = at-found .before .before in
     let there = found-at _ _ (sym (at-found .found .given .1) ∙ at-find .find-track .ensures) in
-    let gone = absent-is _ _ _ (sym (c .before .enum-told .given .1) ∙ at-read .revolution-at .ensures) in
-    absent-refused _ _ _ (there .present) gone (c .refuse .ensures)
+    let number = ap ofPresence (sym (c .before .enum-told .given .1)) ∙ at-read .revolution-at .ensures .1 in
+    absent-refused _ _ _ (there .present) number (c .refuse .ensures)
 
 enum-known-found-2 : tie.Need-enum-known-found-2
 enum-known-found-2 c = search needs
@@ -43,7 +43,7 @@ returns-2 c =
     let at-found = at-read .before .before in
     let at-find = at-found .before .before in
     let there = found-at _ _ (sym (at-found .found .given .1) ∙ at-find .find-track .ensures) in
-    let held = present-is _ _ _ (sym (c .before .revolution .given .1) ∙ at-read .revolution-at .ensures) in
+    let held = present-is _ _ _ (sym (c .before .revolution .given .1) ∙ at-read .revolution-at .ensures .0) in
     let start = at-find .before .before in
     revolution-found _ _ _ (record { track = there .present; below = held .below })
     (held .same ∙ ap (λ (e : ℕ). dataOf (start .args .image .now) e (start .args .k)) (there .same))

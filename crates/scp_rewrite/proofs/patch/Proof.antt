@@ -1,26 +1,20 @@
 -- The stores are those of the definition, one after another, and each moves the sum.
+use Prim.Native.Nat.{ℕ, _+_}
+use mathlib.Core.Path.{ap}
 use borrow.Author.Needs.{needs}
+use Rattle.scp_tracks.specs.declared.RevolutionData.{RevolutionData}
 use Rattle.scp_rewrite.proofs.Patching.{patch-left, patch-moved}
 use Rattle.scp_rewrite.proofs.patch.Statement.{statement}
 use Rattle.scp_rewrite.proofs.patch.Tie as tie
 
+record-offset-requires : tie.Need-record-offset-requires
+record-offset-requires c κs = search needs
+
 add-at : tie.Need-add-at
 add-at c = search needs
 
-mul-at : tie.Need-mul-at
-mul-at c = search needs
-
-add-at-2 : tie.Need-add-at-2
-add-at-2 c = search needs
-
-add-number32 : tie.Need-add-number32
-add-number32 c = search needs
-
-number32-requires : tie.Need-number32-requires
-number32-requires c κs = search needs
-
-add-place : tie.Need-add-place
-add-place c = search needs
+revolution-data-requires : tie.Need-revolution-data-requires
+revolution-data-requires c κs = search needs
 
 stored-sum-requires : tie.Need-stored-sum-requires
 stored-sum-requires c κs = search needs
@@ -29,7 +23,9 @@ cast-count : tie.Need-cast-count
 cast-count c = search needs
 
 store-requires : tie.Need-store-requires
-store-requires c κs = search needs
+store-requires c κs =
+    let far = ap (λ (d : RevolutionData). d .offset .0) (c .before .before .before .revolution-data .ensures .0) in
+    search needs
 
 four-bytes-requires : tie.Need-four-bytes-requires
 four-bytes-requires c κs = search needs
@@ -63,30 +59,29 @@ returns c =
     let at-time-bytes = at-time .before .before in
     let at-words = at-time-bytes .before .before .before .before in
     let at-sum = at-words .before .before in
-    let at-distance = at-sum .before .before in
-    let start = at-distance .before .before .before .before in
+    let at-data = at-sum .before .before in
+    let at-record = at-data .before .before in
+    let start = at-record .before .before .before in
     let a = start .args in
-    let far = at-distance .number32 .ensures .0 in
+    let here = ap (λ (i : ℕ). a .e + i) (at-record .record-offset .ensures) in
+    let far = ap (λ (d : RevolutionData). d .offset .0) (at-data .revolution-data .ensures .0) in
     let time = at-time-bytes .four-bytes .ensures in
     let count = at-count-bytes .four-bytes2 .ensures in
     let first = at-words .store .ensures in
     let second = at-time .store2 .ensures in
     let third = at-count .store3 .ensures in (
-      patch-moved (a .image .now) (a .e) (a .k) (a .duration) (a .words .now) far time count first second third (start .pre)
+      patch-moved (a .image .now) (a .e) (a .k) (a .duration) (a .words .now) here far time count first second third (start .pre)
           (at-sum .stored-sum .ensures) (search needs),
-      patch-left (a .image .now) (a .e) (a .k) (a .duration) (a .words .now) far time count first second third,
+      patch-left (a .image .now) (a .e) (a .k) (a .duration) (a .words .now) here far time count first second third,
     )
 
 pub patch-spec : {M : Type 1} → statement M
 patch-spec =
     tie.close
     (tie.spec
+    record-offset-requires
     add-at
-    mul-at
-    add-at-2
-    add-number32
-    number32-requires
-    add-place
+    revolution-data-requires
     stored-sum-requires
     cast-count
     store-requires

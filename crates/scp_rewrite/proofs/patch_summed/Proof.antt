@@ -1,11 +1,12 @@
 -- Whether the image is read/write is read before the stores; the checksum is stored only where it is not.
+use mathlib.Core.Path.{sym, _∙_}
 use borrow.Author.Needs.{needs}
 use Rattle.scp_rewrite.proofs.Patching.{summed-kept, summed-put}
 use Rattle.scp_rewrite.proofs.patch_summed.Statement.{statement}
 use Rattle.scp_rewrite.proofs.patch_summed.Tie as tie
 
-slice-read-read-write : tie.Need-slice-read-read-write
-slice-read-read-write c = search needs
+is-read-write-requires : tie.Need-is-read-write-requires
+is-read-write-requires c κs = search needs
 
 patch-requires : tie.Need-patch-requires
 patch-requires c κs = search needs
@@ -16,7 +17,8 @@ same-length c = search needs
 returns : tie.Need-returns
 returns c =
     let at-patch = c .before .before .before in
-    summed-kept _ _ _ (at-patch .patch .ensures .1) (c .if1 .taken)
+    let mark = at-patch .before .before .is-read-write .ensures in
+    summed-kept _ _ _ (at-patch .patch .ensures .1) (sym mark ∙ c .if1 .taken)
 
 put-le32-requires : tie.Need-put-le32-requires
 put-le32-requires c κs = search needs
@@ -29,13 +31,15 @@ returns-2 c =
     let at-put = c .before .before in
     let past = at-put .before .before in
     let at-patch = past .before .before .before in
-    summed-put _ _ _ (at-patch .patch .ensures .1) (past .if1 .left) (search needs) (at-patch .patch .ensures .0) (at-put .put-le32 .ensures .1)
+    let mark = at-patch .before .before .is-read-write .ensures in
+    summed-put _ _ _ (at-patch .patch .ensures .1) (sym mark ∙ past .if1 .left) (search needs) (at-patch .patch .ensures .0)
+    (at-put .put-le32 .ensures .1)
 
 pub patch-summed-spec : {M : Type 1} → statement M
 patch-summed-spec =
     tie.close
     (tie.spec
-    slice-read-read-write
+    is-read-write-requires
     patch-requires
     same-length
     returns

@@ -15,20 +15,14 @@ returns c =
     let f = c .before .before .rewrite-fault .ensures in
     (answers-refused _ _ _ _ f (c .if1 .taken), leaves-all _ _ _ _ f _ (c .if1 .taken))
 
-mul-number32 : tie.Need-mul-number32
-mul-number32 c = search needs
-
-add-number32 : tie.Need-add-number32
-add-number32 c = search needs
-
-number32-requires : tie.Need-number32-requires
-number32-requires c κs = search needs
+track-entry-requires : tie.Need-track-entry-requires
+track-entry-requires c κs = search needs
 
 patch-summed-requires : tie.Need-patch-summed-requires
 patch-summed-requires c κs =
     let at-entry = c .before in
     let past = at-entry .before .before in
-    patchable _ _ _ _ (past .before .before .rewrite-fault .ensures) (at-entry .number32 .ensures .0) (past .if1 .left)
+    patchable _ _ _ _ (past .before .before .rewrite-fault .ensures) (at-entry .track-entry .ensures) (past .if1 .left)
 
 same-length-2 : tie.Need-same-length-2
 same-length-2 c = search needs
@@ -40,7 +34,7 @@ returns-2 c =
     let past = at-entry .before .before in
     let f = past .before .before .rewrite-fault .ensures in (
       answers-done _ _ _ _ f (past .if1 .left),
-      leaves-rewritten _ _ _ _ f (at-entry .number32 .ensures .0) (past .if1 .left) _ (at-patch .patch-summed .ensures),
+      leaves-rewritten _ _ _ _ f (at-entry .track-entry .ensures) (past .if1 .left) _ (at-patch .patch-summed .ensures),
     )
 
 pub rewrite-spec : {M : Type 1} → statement M
@@ -50,9 +44,7 @@ rewrite-spec =
     rewrite-fault-requires
     same-length
     returns
-    mul-number32
-    add-number32
-    number32-requires
+    track-entry-requires
     patch-summed-requires
     same-length-2
     returns-2)

@@ -1,6 +1,5 @@
 -- The longest and the shortest duration are those of the definition, and so are their speeds.
-use mathlib.Core.Path.{_≡_, sym, ap, ap₂, _∙_}
-use Prim.Native.Nat.{ℕ}
+use mathlib.Core.Path.{_≡_, sym, ap, _∙_}
 use lib.Ieee.{Float}
 use borrow.Author.Tests.{eq-eqb, ne-eqb}
 use Rattle.scp_tracks.specs.Tracks.{durationAt}

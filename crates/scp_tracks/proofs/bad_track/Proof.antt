@@ -1,10 +1,5 @@
 -- Each return meets the tests before it, in the definition's order.
-use mathlib.Core.Path.{sym, _∙_}
-use borrow.Author.Tests.{lt-ltb, le-ltb}
-use native.Mathlib.Omega.{arith}
-use Prim.Native.Nat.{_+_}
-use Rattle.scp_fields.specs.Header.{dataEnd}
-use Rattle.scp_tracks.specs.Tracks.{headerSize}
+use mathlib.Core.Path.{_∙_}
 use Rattle.scp_tracks.proofs.RevolutionLaws.{track-low, track-past, track-in}
 use borrow.Author.Needs.{needs}
 use Rattle.scp_tracks.proofs.bad_track.Statement.{statement}

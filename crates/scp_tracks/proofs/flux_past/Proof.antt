@@ -8,8 +8,8 @@ use borrow.Author.Needs.{needs}
 use Rattle.scp_tracks.proofs.flux_past.Statement.{statement}
 use Rattle.scp_tracks.proofs.flux_past.Tie as tie
 
-revolution-data-requires : tie.Need-revolution-data-requires
-revolution-data-requires c κs = search needs
+inner-record-requires : tie.Need-inner-record-requires
+inner-record-requires c κs = search needs
 
 data-end-requires : tie.Need-data-end-requires
 data-end-requires c κs = search needs
@@ -28,11 +28,11 @@ returns c =
     let at-end = c .before .before in
     let at-data = at-end .before in
     let b = at-data .before .before .args .image .now in
-    let d = at-data .revolution-data .result in
-    ap (λ (x : ℕ). ltb x (d .place .0 + 2 * d .words)) (at-end .data-end .ensures)
-    ∙ ap (λ (y : RevolutionData). ltb (dataEnd b) (y .place .0 + 2 * y .words)) (at-data .revolution-data .ensures .0)
+    let d = at-data .inner-record .result in
+    ap (λ (x : ℕ). ltb x (d .offset .0 + 2 * d .words)) (at-end .data-end .ensures)
+    ∙ ap (λ (y : RevolutionData). ltb (dataEnd b) (y .offset .0 + 2 * y .words)) (at-data .inner-record .ensures .0)
 
 pub flux-past-spec : {M : Type 1} → statement M
 flux-past-spec =
     tie.close
-    (tie.spec revolution-data-requires data-end-requires cast-result mul-result add-result returns)
+    (tie.spec inner-record-requires data-end-requires cast-result mul-result add-result returns)

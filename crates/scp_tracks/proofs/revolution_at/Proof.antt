@@ -1,6 +1,4 @@
 -- Present where its number is below the image's.
-use mathlib.Core.Path.{ap, _∙_}
-use Rattle.scp_tracks.specs.declared.Revolution.the-variants.{Present}
 use Rattle.scp_tracks.proofs.RevolutionLaws.{absent, present}
 use borrow.Author.Needs.{needs}
 use Rattle.scp_tracks.proofs.revolution_at.Statement.{statement}
@@ -16,7 +14,7 @@ revolution-data-requires : tie.Need-revolution-data-requires
 revolution-data-requires c κs = search needs
 
 returns-2 : tie.Need-returns-2
-returns-2 c = ap Present (c .revolution-data .ensures .0) ∙ present _ _ _ (search needs)
+returns-2 c = present _ _ _ (c .revolution-data .ensures .0) (search needs)
 
 pub revolution-at-spec : {M : Type 1} → statement M
 revolution-at-spec =

@@ -1,7 +1,8 @@
 -- Each return meets the tests before it, in the definition's order; each test is followed on by one law.
-use mathlib.Core.Path.{_≡_, sym, _∙_}
+use mathlib.Core.Path.{sym, _∙_}
 use borrow.Author.Tests.{eq-eqb, ne-eqb}
 use Rattle.scp_tracks.specs.Tracks.{trackFaultAt}
+use Rattle.scp_tracks.proofs.RevolutionLaws.{track-inside}
 use Rattle.refusals.proofs.Chain.{refuse-here, refuse-next}
 use borrow.Author.Needs.{needs}
 use Rattle.scp_tracks.proofs.track_fault.Statement.{statement}
@@ -43,7 +44,8 @@ returns-3 c =
     (refuse-here _ _ _ (sym (track .bad-track .ensures) ∙ c .before .if3 .taken) (c .refuse2 .ensures)))
 
 bad-flux-requires : tie.Need-bad-flux-requires
-bad-flux-requires c κs = search needs
+bad-flux-requires c κs =
+    track-inside _ _ _ (sym (c .before .bad-track .ensures) ∙ c .if3 .left)
 
 refuse-requires-3 : tie.Need-refuse-requires-3
 refuse-requires-3 c κs = search needs

@@ -1,8 +1,8 @@
 -- The kind picks a rewrite or a question, and its numbers are those of the row.
 use mathlib.Core.Path.{sym, ap, ap₂, _∙_}
-use Rattle.sequence.specs.Book.{Call, answer, after}
-use Rattle.sequence.specs.Rows.{questionOf, rowOf}
-use Rattle.sequence.proofs.RowLaws.{call-rewrite, call-question, rewrite-same, question-stays}
+use Rattle.scp_book.specs.Book.{Call, ask, answer, after}
+use Rattle.scp_rows.specs.Rows.{questionOf, rowOf}
+use Rattle.sequence.proofs.CallLaws.{call-rewrite, call-question, rewrite-same}
 use borrow.Author.Needs.{needs}
 use Rattle.sequence.proofs.call_row.Statement.{statement}
 use Rattle.sequence.proofs.call_row.Tie as tie
@@ -80,6 +80,7 @@ same-length : tie.Need-same-length
 same-length c = search needs
 
 returns : tie.Need-returns
+unfolding answer after
 returns c =
     let at-rewrite = c .before .before in
     let at-part = at-rewrite .before .before in
@@ -101,6 +102,7 @@ same-length-2 : tie.Need-same-length-2
 same-length-2 c = search needs
 
 returns-2 : tie.Need-returns-2
+unfolding answer after
 returns-2 c =
     let at-else = c .before .before in
     let at-revolution = at-else .before in
@@ -108,9 +110,9 @@ returns-2 c =
     let a = at-track .before .before .before .before .before .before .args in
     let b = a .image .now in
     let call = call-question (a .calls .now) (a .words .now) (a .i) (at-else .if1 .left) in
-    let same = ap₂ (questionOf _) (at-track .cap .ensures) (at-revolution .cap2 .ensures) in (
+    let same = ap ask (ap₂ (questionOf _) (at-track .cap .ensures) (at-revolution .cap2 .ensures)) in (
       c .question-row .ensures ∙ ap (λ (q : Call). rowOf (answer b q)) (same ∙ sym call),
-      sym (ap (after b) call ∙ question-stays b _ _ _),
+      sym (ap (after b) call),
     )
 
 pub call-row-spec : {M : Type 1} → statement M

@@ -1,5 +1,5 @@
--- Too few places refuse, and nothing is done; else the calls are run. Demand 3 holds of the calls either way, since the elements of the
--- image and of the words are bytes.
+-- Too few places refuse, and nothing is done; else the calls are run, and demand 3 holds of them, since the elements of the image and of
+-- the words are bytes.
 use Prim.Native.Nat.{_*_, _/_, _<_, _≤_}
 use native.Mathlib.Omega.{arith}
 use lib.ListN.{length}
@@ -8,13 +8,14 @@ use borrow.Author.Needs.{needs}
 use Rattle.sequence.proofs.replay.Statement.{statement}
 use Rattle.sequence.proofs.replay.Tie as tie
 
+refuse-requires : tie.Need-refuse-requires
+refuse-requires c κs = search needs
+
 returns : tie.Need-returns
 returns c =
-    let at-words = c .before .before in
-    let at-image = at-words .before .before in
-    let a = at-image .before .args in
+    let a = c .before .before .before .before .before .before .args in
     let few : length (a .answers .now) < 16 * (length (a .calls .now) / 6) = omega arith in
-    refused-replay _ _ _ _ few (λ i. at-image .slice-known .given i .fits) (λ i. at-words .shared-slice-known2 .given i .fits)
+    refused-replay _ _ _ _ few (c .refuse .ensures)
 
 run-calls-requires : tie.Need-run-calls-requires
 run-calls-requires c κs = search needs
@@ -36,4 +37,4 @@ returns-2 c =
     done-replay _ _ _ _ places (λ i. at-image .slice-known .given i .fits) (λ i. at-words .shared-slice-known2 .given i .fits) (at-run .run-calls .ensures .0) (at-run .run-calls .ensures .1)
 
 pub replay-spec : {M : Type 1} → statement M
-replay-spec = tie.close (tie.spec returns run-calls-requires same-length same-length-2 returns-2)
+replay-spec = tie.close (tie.spec refuse-requires returns run-calls-requires same-length same-length-2 returns-2)

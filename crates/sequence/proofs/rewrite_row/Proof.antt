@@ -1,8 +1,7 @@
 -- The row is that of the answer which the rewrite gives, and the bytes are those that it leaves.
 use mathlib.Core.Path.{sym, ap, _∙_}
 use Rattle.scp_rewrite.specs.Answering.{ofRewritten}
-use Rattle.sequence.specs.Book.{answer, after}
-use Rattle.sequence.specs.Rows.{rowOf}
+use Rattle.scp_rows.specs.Rows.{rowOf}
 use borrow.Author.Needs.{needs}
 use Rattle.sequence.proofs.rewrite_row.Statement.{statement}
 use Rattle.sequence.proofs.rewrite_row.Tie as tie
@@ -26,7 +25,6 @@ same-length : tie.Need-same-length
 same-length c = search needs
 
 returns : tie.Need-returns
-unfolding answer after
 returns c =
     let at-told = c .before in
     let at-call = at-told .before .before .before .before in (
@@ -38,7 +36,6 @@ same-length-2 : tie.Need-same-length-2
 same-length-2 c = search needs
 
 returns-2 : tie.Need-returns-2
-unfolding answer after
 returns-2 c =
     let at-told = c .before .before in
     let at-call = at-told .before .before .before .before in (

@@ -1,22 +1,18 @@
 -- The loop's invariant: the calls from row i on, made on the image as it stands, end in the final bytes, and their rows are still to be
 -- written.
 use mathlib.Core.Path.{_≡_, refl, sym, ap, _∙_}
-use Prim.Native.Nat.{_-_, _*_, _≤_}
+use Prim.Native.Nat.{_-_, _*_, _/_, _≤_}
 use native.Mathlib.Omega.{arith}
 use lib.ListN.{length}
 use borrow.Author.Needs.{needs}
 use Rattle.flux.proofs.Wrote.{Wrote, retell, moved, whole-is}
-use Rattle.sequence.specs.Book as book
-use Rattle.sequence.specs.Book.{finalBytes}
-use Rattle.sequence.specs.Rows.{callAt, callsFrom, rowsOf}
-use Rattle.sequence.proofs.RowLaws.{row-length}
-use Rattle.sequence.proofs.Running.{room, final-start, final-next, final-end, wrote-start, wrote-next, rows-end}
+use Rattle.scp_book.specs.Book as book
+use Rattle.scp_book.specs.Book.{finalBytes}
+use Rattle.sequence.specs.Calls.{callAt, callsFrom, rowsOf}
+use Rattle.copies.proofs.CopyLaws.{copy-fits}
+use Rattle.sequence.proofs.Running.{room, row-fits, final-start, final-next, final-end, wrote-start, wrote-next, rows-end}
 use Rattle.sequence.proofs.run_calls.Statement.{statement}
 use Rattle.sequence.proofs.run_calls.Tie as tie
-use Rattle.sequence.proofs.run_calls.Reads as reads
-use Rattle.sequence.proofs.run_calls.Lts as lts
-use Rattle.sequence.proofs.call_row.Reads as call-row-reads
-use Rattle.sequence.proofs.put_row.Reads as put-row-reads
 
 abbrev Inv-loop : tie.InvT-loop
 Inv-loop image₀ calls words answers₀ n i₀ image answers i =
@@ -31,51 +27,34 @@ abbrev μ-loop : tie.MeasureT-loop
 μ-loop image₀ calls words answers₀ n i₀ image answers i =
     n - i
 
--- src/lib.rt:408:5
 loop-holds : tie.Need-loop-holds Inv-loop μ-loop
 loop-holds c =
     let a = c .before .before .before .before .args in
     (omega arith, c .before .before .before .before .pre, refl, final-start (a .calls .now) (a .words .now) _ _, wrote-start (a .calls .now) (a .words .now) _ _ _)
 
--- src/lib.rt:409:19
 call-row-requires : tie.Need-call-row-requires Inv-loop μ-loop
 call-row-requires c κs =
     search needs
 
--- src/lib.rt:410:26
-mul-put-row : tie.Need-mul-put-row Inv-loop μ-loop
-mul-put-row c =
+mul-numbers : tie.Need-mul-numbers Inv-loop μ-loop
+mul-numbers c =
     search needs
 
--- src/lib.rt:410:34
-slice-aggregate-put-row : tie.Need-slice-aggregate-put-row Inv-loop μ-loop
-slice-aggregate-put-row c =
+slice-aggregate-numbers : tie.Need-slice-aggregate-numbers Inv-loop μ-loop
+slice-aggregate-numbers c =
     search needs
 
--- src/lib.rt:410:9
-put-row-requires : tie.Need-put-row-requires Inv-loop μ-loop
-put-row-requires c κs =
-    let at-call = c .before .before .before .before in
-    let in-loop = at-call .before .before in
-    let l = in-loop .before .loop in
-    let a = in-loop .before .before .before .before .before .before .args in
-    let size = ap length (at-call .call-row .ensures .0) ∙ row-length (book.answer (l .image) (callAt (a .calls .now) (a .words .now) (l .i))) in
-    let same = l .inv .4 .same in
-    let places = l .inv .1 in
-    let below = in-loop .loop-test .taken in
-    omega arith
+numbers-requires : tie.Need-numbers-requires Inv-loop μ-loop
+numbers-requires c κs = search needs
 
--- src/lib.rt:411:9
 add-i : tie.Need-add-i Inv-loop μ-loop
 add-i c =
     search needs
 
--- src/lib.rt:408:5
 loop-less : tie.Need-loop-less Inv-loop μ-loop
 loop-less c =
     search needs
 
--- src/lib.rt:408:5
 loop-again : tie.Need-loop-again Inv-loop μ-loop
 loop-again c =
     let at-put = c .before .before in
@@ -87,25 +66,24 @@ loop-again c =
     let words = a .words .now in
     let below = in-loop .loop-test .taken in
     let made = at-call .call-row .ensures in
-    let whole = room calls words (a .image .now) (a .answers .now) (l .inv .1) in (
+    let whole = room calls words (a .image .now) (a .answers .now) (l .inv .1) in
+    let fits = row-fits (book.answer (l .image) (callAt calls words (l .i))) (l .answers) (a .answers .now) (l .i) (length calls / 6) (made .0) (l .inv .1) (l .inv .4 .same) below in (
       search needs,
       l .inv .1,
       omega arith,
       final-next calls words _ _ _ (l .i) _ below (made .1) (l .inv .3),
-      moved (sym (at-put .put-row .ensures)) refl (wrote-next calls words _ _ _ _ _ _ (l .i) _ below whole (made .1) (made .0) (l .inv .4)),
+      moved (sym (at-put .numbers .ensures .1 ∙ copy-fits (l .answers) (at-call .call-row .result) _ fits)) refl
+          (wrote-next calls words _ _ _ _ _ _ (l .i) _ below whole (made .1) (made .0) (l .inv .4)),
     )
 
--- src/lib.rt:401:1
 same-length : tie.Need-same-length Inv-loop μ-loop
 same-length c =
     c .before .loop .inv .2
 
--- src/lib.rt:401:1
 same-length-2 : tie.Need-same-length-2 Inv-loop μ-loop
 same-length-2 c =
     c .before .loop .inv .4 .same
 
--- src/lib.rt:401:1
 returns : tie.Need-returns Inv-loop μ-loop
 returns c =
     let l = c .before .loop in
@@ -125,9 +103,9 @@ run-calls-spec =
     μ-loop
     loop-holds
     call-row-requires
-    mul-put-row
-    slice-aggregate-put-row
-    put-row-requires
+    mul-numbers
+    slice-aggregate-numbers
+    numbers-requires
     add-i
     loop-less
     loop-again

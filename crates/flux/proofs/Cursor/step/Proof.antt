@@ -8,7 +8,8 @@ use borrow.Author.Needs.{needs}
 use Rattle.flux.specs.Coding.{wordsOf, fluxLimit}
 use Rattle.flux.specs.Reading.{zeroTicks}
 use Rattle.flux.specs.Answers.{stepFrom}
-use Rattle.flux.proofs.AtWord.{good-size, step-zero, step-close, step-end}
+use Rattle.flux.proofs.WordLaws.{good-size, step-zero, step-close, step-end}
+use Rattle.flux.proofs.AnswerLaws.{refused-by}
 use Rattle.flux.proofs.Cursor.step.Statement.{statement}
 use Rattle.flux.proofs.Cursor.step.Tie as tie
 
@@ -24,8 +25,11 @@ abbrev μ-loop : tie.MeasureT-loop
 bad-flux-size-requires : tie.Need-bad-flux-size-requires Inv-loop μ-loop
 bad-flux-size-requires c κs = search needs
 
+refuse-requires : tie.Need-refuse-requires Inv-loop μ-loop
+refuse-requires c κs = search needs
+
 returns : tie.Need-returns Inv-loop μ-loop
-returns c = simp (sym (c .before .bad-flux-size .ensures) ∙ c .if1 .taken)
+returns c = simp (sym (c .before .before .bad-flux-size .ensures) ∙ c .before .if1 .taken) (refused-by (c .refuse .ensures))
 
 loop-holds : tie.Need-loop-holds Inv-loop μ-loop
 loop-holds c =
@@ -76,6 +80,7 @@ step-spec =
     Inv-loop
     μ-loop
     bad-flux-size-requires
+    refuse-requires
     returns
     loop-holds
     word-at-requires

@@ -1,0 +1,63 @@
+// Copying a lent list into a lent buffer, for each width: all of it, or nothing where it does not fit.
+ghost use mathlib.Core.Path.{_≡_};
+ghost use Rattle.copies.specs.Copying.{fitsAt, copiedAt};
+
+// Copies bytes to `at`, and says whether they fit.
+pub fn bytes(out: &mut [u8], at: usize, values: &[u8]) -> bool
+    ensures { λ r. ⌜ r ≡ fitsAt (now (out .entry)) at (now (values .entry)) ⌝ }
+    ensures { λ _. ⌜ now (out .exit) ≡ copiedAt (now (out .entry)) at (now (values .entry)) ⌝ }
+{
+    let n = values.len();
+    if out.len() < n {
+        return false;
+    }
+    if out.len() - n < at {
+        return false;
+    }
+    let mut j = 0;
+    while j < n {
+        out[at + j] = values[j];
+        j += 1;
+    }
+    true
+}
+
+// Copies numbers of 64 bits to `at`, and says whether they fit.
+pub fn numbers(out: &mut [u64], at: usize, values: &[u64]) -> bool
+    ensures { λ r. ⌜ r ≡ fitsAt (now (out .entry)) at (now (values .entry)) ⌝ }
+    ensures { λ _. ⌜ now (out .exit) ≡ copiedAt (now (out .entry)) at (now (values .entry)) ⌝ }
+{
+    let n = values.len();
+    if out.len() < n {
+        return false;
+    }
+    if out.len() - n < at {
+        return false;
+    }
+    let mut j = 0;
+    while j < n {
+        out[at + j] = values[j];
+        j += 1;
+    }
+    true
+}
+
+// Copies floats to `at`, and says whether they fit.
+pub fn floats(out: &mut [f64], at: usize, values: &[f64]) -> bool
+    ensures { λ r. ⌜ r ≡ fitsAt (now (out .entry)) at (now (values .entry)) ⌝ }
+    ensures { λ _. ⌜ now (out .exit) ≡ copiedAt (now (out .entry)) at (now (values .entry)) ⌝ }
+{
+    let n = values.len();
+    if out.len() < n {
+        return false;
+    }
+    if out.len() - n < at {
+        return false;
+    }
+    let mut j = 0;
+    while j < n {
+        out[at + j] = values[j];
+        j += 1;
+    }
+    true
+}

@@ -1,0 +1,4 @@
+pub mod Counting
+pub mod Stepping
+pub mod RoundTrips
+pub mod Inexpressible

@@ -1,0 +1,1 @@
+// What the definitions of flux are proved to mean together: specs/Theorems.antt states it. No code needs these proofs.

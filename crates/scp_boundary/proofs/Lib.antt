@@ -1,0 +1,5 @@
+pub mod ExactCodes
+pub mod LentPlaces
+pub mod GivenValues
+pub mod CodeAndBuffer
+pub mod UncutCodes

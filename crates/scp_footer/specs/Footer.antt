@@ -1,0 +1,56 @@
+-- The footer and its strings (L-21 to L-24), and refusals 7 and 8.
+use Prim.Native.Nat.{ℕ, _+_, _-_, _*_}
+use mathlib.Core.List.{List}
+use mathlib.Core.Bool.{Bool, not, _&&_, _||_}
+use lib.ListN.{length}
+use lib.Dec.{eqb, ltb}
+use Rattle.refusals.specs.declared.Refusal.{Refusal}
+use Rattle.octets.specs.Numbers.{byteAt, le16At, le32At}
+use Rattle.refusals.specs.Refusals.{none, refusal, refuseIf}
+use Rattle.refusals.specs.Search.{anyFrom, firstFrom}
+use Rattle.scp_fields.specs.Header.{tableEnd, hasFooter, dataEnd}
+use Rattle.scp_fields.specs.Footer.{footerAt, stringSlots, stringEntry, footerLeast}
+
+-- R-7: FLAGS bit 5 is set, and the length is below 736, the last four bytes are not "FPCS", or byte 0x2B of the footer is below 0x16.
+abbrev pub badFooter : List ℕ → Bool
+badFooter b =
+    hasFooter b && (ltb (length b) footerLeast
+    || (not (eqb (byteAt b (footerAt b + 0x2C)) 0x46 && (eqb (byteAt b (footerAt b + 0x2D)) 0x50
+    && (eqb (byteAt b (footerAt b + 0x2E)) 0x43 && eqb (byteAt b (footerAt b + 0x2F)) 0x53)))
+    || ltb (byteAt b (footerAt b + 0x2B)) 0x16))
+
+-- ---- strings
+
+-- L-23: the byte at offset i is zero.
+abbrev pub zeroAt : List ℕ → ℕ → Bool
+zeroAt b i = eqb (byteAt b i) 0
+
+-- L-23: some of the n bytes from i on is zero.
+abbrev pub zeroWithin : List ℕ → ℕ → ℕ → Bool
+zeroWithin b i n = anyFrom (zeroAt b) i n
+
+-- L-18, L-23, L-24: a string at offset o of n bytes is misplaced or malformed: it starts below 688 or ends above E, one of its bytes is
+-- zero, or no zero byte follows them.
+unfoldable pub badStringOf : List ℕ → ℕ → ℕ → Bool
+badStringOf b o n =
+    ltb o tableEnd || (ltb (dataEnd b) (o + 3 + n) || (zeroWithin b (o + 2) n || not (eqb (byteAt b (o + 2 + n)) 0)))
+
+-- R-8, L-23: the string at offset o, of the 16-bit length that stands there, is misplaced or malformed.
+abbrev pub badString : List ℕ → ℕ → Bool
+badString b o = badStringOf b o (le16At b o)
+
+-- R-8: string j at offset o refuses where it is present, and misplaced or malformed; the position is j.
+unfoldable pub stringFaultAt : List ℕ → ℕ → ℕ → Refusal
+stringFaultAt b o j = refuseIf (eqb o 0) none (refuseIf (badString b o) (refusal 8 j) none)
+
+-- R-8: the same, at the offset that the footer has for string j.
+abbrev pub stringFault : List ℕ → ℕ → Refusal
+stringFault b j = stringFaultAt b (stringEntry b j) j
+
+-- R-8, RO-2: the first faulty string.
+abbrev pub stringsFault : List ℕ → Refusal
+stringsFault b = firstFrom (stringFault b) 0 stringSlots
+
+-- RO-3: 7, then 8 where there is a footer.
+unfoldable pub footerFault : List ℕ → Refusal
+footerFault b = refuseIf (badFooter b) (refusal 7 0) (refuseIf (not (hasFooter b)) none (stringsFault b))

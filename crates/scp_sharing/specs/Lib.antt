@@ -1,0 +1,5 @@
+pub mod Extents
+pub mod Claims
+pub mod RewriteFault
+pub mod Sharing
+pub mod Walk

@@ -1,0 +1,4 @@
+pub mod Validating
+pub mod Tracks
+pub mod Durations
+pub mod Speeds

@@ -1,0 +1,171 @@
+-- A track number is its cylinder and its head. The flux of a revolution lies in the image, so that the part handed out is as long as its
+-- count says, even and within the limit: no reading of it is refused with 17. What refuses the revolution has a number up to 14.
+use Prim.Native.Nat.{ℕ, zero, suc, _+_, _*_, _%_, _≤_}
+use mathlib.Core.Path.{_≡_, refl, sym, ap, _∙_}
+use mathlib.Core.Logic.{_≢_}
+use mathlib.Core.List.{List, [], _∷_}
+use mathlib.Core.Bool.{Bool, true, false, not, cond}
+use native.Mathlib.Omega.{arith}
+use lib.ListN.{length, drop, length-drop}
+use lib.Seq.{length-take-le}
+use lib.Dec.{ltb}
+use borrow.Author.Tests.{eqb-true, ne-eqb, le-ltb}
+use Rattle.refusals.specs.declared.Refusal.{Refusal}
+use Rattle.refusals.specs.Refusals.{passes, refuseIf, firstOf}
+use Rattle.refusals.specs.Search.{firstFrom}
+use Rattle.flux.specs.Coding.{wordsOf, badFluxSize, fluxLimit}
+use Rattle.flux.specs.Reading.{intervals, openTime}
+use Rattle.flux.specs.Answers.{placesRefused, wordsRefused, Filling, refuses, fills, inPlaces, reading}
+use Rattle.scp_fields.specs.Header.{trackSlots, trackEntry}
+use Rattle.scp_fields.specs.Footer.{stringSlots}
+use Rattle.scp_footer.specs.Footer.{stringFaultAt, stringFault, footerFault}
+use Rattle.scp_header.specs.HeaderFault.{headFault}
+use Rattle.scp_tracks.specs.Tracks.{durationAt, countAt, fluxAt, trackFaultAt, trackFault, tracksFault}
+use Rattle.scp_tracks.specs.declared.RevolutionData.{RevolutionData}
+use Rattle.scp_open.specs.Opening.{openFault}
+use Rattle.scp_open.proofs.Opens.{opens}
+use Rattle.scp_lookup.specs.Questions.{trackThen, revolutionQuestion}
+use Rattle.scp_lookup.specs.Lookups.{foundRevolution}
+use Rattle.scp_lookup.specs.declared.RevolutionAnswer.{RevolutionAnswer}
+use Rattle.scp_lookup.specs.declared.RevolutionAnswer.the-variants as revolution-answer
+use Rattle.scp_lookup.proofs.FoundLaws.{FoundData, revolution-there, revolution-found, found-data, found-refused, flux-within}
+use Rattle.scp.specs.Answers.{refused, numbers, revolutionAnswer, fluxOf, fluxPart, partOf, intervalsOf}
+use Rattle.scp_theorems.specs.Theorems.{TrackNumber, FluxIsCounted, NeverWords}
+
+pub track-number : (t : ℕ) → TrackNumber t
+track-number t = record { whole = omega arith; side = omega arith }
+
+-- ---- the flux of a revolution is as long as its count says
+
+module _ (b : List ℕ) (t k : ℕ) where
+  -- an answer with numbers is not refused, and its second number is the count
+  counted : (duration words offset : ℕ) → revolutionAnswer b t k ≡ numbers (duration ∷ words ∷ offset ∷ [])
+      → (revolutionQuestion b t k .number ≡ 0) × (countAt b (trackEntry b t) k ≡ words)
+  unfolding revolutionAnswer
+  counted duration words offset e = go (passes (revolutionQuestion b t k)) refl e
+    where
+      go : (x : Bool) → passes (revolutionQuestion b t k) ≡ x
+          → cond x (numbers (durationAt b (trackEntry b t) k ∷ countAt b (trackEntry b t) k ∷ fluxAt b (trackEntry b t) k ∷ []))
+          (refused (revolutionQuestion b t k .number) (revolutionQuestion b t k .position)) ≡ numbers (duration ∷ words ∷ offset ∷ [])
+          → (revolutionQuestion b t k .number ≡ 0) × (countAt b (trackEntry b t) k ≡ words)
+      go true q h = (eqb-true (revolutionQuestion b t k .number) 0 q, cc)
+      go false q h = let z : _≡_ {A = ℕ} 0 1 = cc in absurd (omega arith)
+
+  flux-length : {d : RevolutionData} → FoundData b t k d → length (fluxOf b d) ≡ 2 * d .words
+  flux-length {d} h =
+      let within = flux-within b t k h in
+      let rest = length-drop (d .offset .0) b in
+      length-take-le (2 * d .words) (drop (d .offset .0) b) (omega arith)
+
+  part-length : revolutionQuestion b t k .number ≡ 0 → length (fluxPart b t k) ≡ 2 * countAt b (trackEntry b t) k
+  part-length z =
+      let found = revolution-found b t k (revolution-there b t k z) refl in
+      ap (λ (s : List ℕ). length s) (ap (partOf b) (sym found)) ∙ flux-length (found-data b t k found)
+
+pub flux-is-counted : FluxIsCounted
+flux-is-counted b t k duration words offset e =
+    let held = counted b t k duration words offset e in
+    part-length b t k (held .0) ∙ ap (λ (n : ℕ). 2 * n) (held .1)
+
+-- ---- what refuses a revolution has a number up to 14
+
+module _ (m : ℕ) where
+  most-if : (t : Bool) (f rest : Refusal) → f .number ≤ m → rest .number ≤ m → refuseIf t f rest .number ≤ m
+  unfolding refuseIf
+  most-if true f rest h k = h
+  most-if false f rest h k = k
+
+  most-first : (f rest : Refusal) → f .number ≤ m → rest .number ≤ m → firstOf f rest .number ≤ m
+  unfolding firstOf
+  most-first f rest h k = most-if (not (passes f)) f rest h k
+
+  most-from : (f : ℕ → Refusal) (i n : ℕ) → ((j : ℕ) → f j .number ≤ m) → firstFrom f i n .number ≤ m
+  unfolding firstFrom
+  most-from f i zero h = omega arith
+  most-from f i (suc n) h = most-first (f i) (firstFrom f (i + 1) n) (h i) (most-from f (i + 1) n h)
+
+module _ (b : List ℕ) where
+  string-most : (j : ℕ) → stringFault b j .number ≤ 8
+  unfolding stringFaultAt
+  string-most j = most-if 8 _ _ _ (omega arith) (most-if 8 _ _ _ (omega arith) (omega arith))
+
+  footer-most : footerFault b .number ≤ 8
+  unfolding footerFault
+  footer-most = most-if 8 _ _ _ (omega arith) (most-if 8 _ _ _ (omega arith) (most-from 8 (stringFault b) 0 stringSlots string-most))
+
+  head-most : headFault b .number ≤ 8
+  unfolding headFault
+  head-most =
+      most-if 8 _ _ _ (omega arith)
+      (most-if 8 _ _ _ (omega arith)
+      (most-if 8 _ _ _ (omega arith)
+      (most-if 8 _ _ _ (omega arith)
+      (most-if 8 _ _ _ (omega arith)
+      (most-if 8 _ _ _ (omega arith)
+      footer-most)))))
+
+  track-most : (t : ℕ) → trackFault b t .number ≤ 11
+  unfolding trackFaultAt
+  track-most t =
+      most-if 11 _ _ _ (omega arith)
+      (most-if 11 _ _ _ (omega arith)
+      (most-if 11 _ _ _ (omega arith)
+      (most-if 11 _ _ _ (omega arith)
+      (omega arith))))
+
+  open-most : openFault b .number ≤ 11
+  unfolding openFault
+  open-most =
+      let head = head-most in
+      most-first 11 (headFault b) (tracksFault b) (omega arith) (most-from 11 (trackFault b) 0 trackSlots track-most)
+
+  revolution-most : (t k : ℕ) → revolutionQuestion b t k .number ≤ 14
+  unfolding trackThen
+  revolution-most t k =
+      let first = open-most in
+      most-first 14 (openFault b) _ (omega arith)
+      (most-if 14 _ _ _ (omega arith)
+      (most-if 14 _ _ _ (omega arith)
+      (most-if 14 _ _ _ (omega arith)
+      (omega arith))))
+
+-- ---- reading its intervals is never refused with 17
+
+-- the number of a refused filling
+abbrev number-of : Filling → ℕ
+number-of (refuses n p) = n
+number-of (fills vs xs) = 0
+
+places-only : (places : ℕ) (vs xs : List ℕ) (p : ℕ) → inPlaces places vs xs ≢ refuses wordsRefused p
+places-only places vs xs p e = go (ltb places (length xs)) e
+  where
+    go : (x : Bool) → cond x (refuses placesRefused 0) (fills vs xs) ≡ refuses wordsRefused p → ⊥
+    go true e = let z : placesRefused ≡ wordsRefused = ap number-of e in omega arith
+    go false e = let z : _≡_ {A = ℕ} 0 wordsRefused = ap number-of e in omega arith
+
+passed : (x : Bool) (f : Filling) (p : ℕ) → x ≡ false → cond x (refuses wordsRefused 0) f ≡ refuses wordsRefused p → f ≡ refuses wordsRefused p
+passed x f p q e = rw q at e
+
+good-flux : (n : ℕ) → 2 * n ≤ fluxLimit → badFluxSize (2 * n) ≡ false
+good-flux n h = simp (ne-eqb (2 * n % 2) 1 (λ e. omega arith), le-ltb fluxLimit (2 * n) h)
+
+module _ (b : List ℕ) (t k places p : ℕ) where
+  read-whole : {d : RevolutionData} → FoundData b t k d → reading (fluxOf b d) places ≢ refuses wordsRefused p
+  read-whole {d} h e =
+      let size = flux-length b t k h in
+      let within = flux-within b t k h in
+      let most = opens b (h .present .track .opened) .most in
+      let good : badFluxSize (length (fluxOf b d)) ≡ false = ap badFluxSize size ∙ good-flux (d .words) (omega arith) in
+      let times = intervals 0 (wordsOf (fluxOf b d)) in
+      places-only places (length times ∷ openTime 0 (wordsOf (fluxOf b d)) ∷ []) times p (passed _ _ p good e)
+
+  never : (r : RevolutionAnswer) → r ≡ foundRevolution b t k → intervalsOf b places r ≢ refuses wordsRefused p
+  never (revolution-answer.Found d) h = read-whole (found-data b t k h)
+  never (revolution-answer.Refused f) h = λ e.
+      let most = revolution-most b t k in
+      let same : f .number ≡ 17 = ap number-of e in
+      let number = ap (λ (x : Refusal). x .number) (found-refused b t k h .refuses) in
+      omega arith
+
+pub never-words : NeverWords
+never-words b t k places p = never b t k places p (foundRevolution b t k) refl

@@ -1,0 +1,2 @@
+pub mod FoundFlux
+pub mod FooterTimes
