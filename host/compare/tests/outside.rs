@@ -49,11 +49,11 @@ fn the_worked_examples_of_the_text_hold() {
         assert_eq!((track.cylinder, track.head), (cylinder, head));
     }
     // "BYTES 0x34-0x3F would be the 5th entry (duration5, length5, offset5)."
-    let place = scp::track(&capture, 0x50).unwrap().place as usize;
+    let header = scp::track(&capture, 0x50).unwrap().offset as usize;
     let fifth = scp::revolution(&capture, 0x50, 4).unwrap();
     let number = |at: usize| number_at(&capture, at);
-    assert_eq!((number(place + 0x34), number(place + 0x38)), (fifth.duration, fifth.words));
-    assert_eq!(place as u64 + u64::from(number(place + 0x3C)), fifth.place);
+    assert_eq!((number(header + 0x34), number(header + 0x38)), (fifth.duration, fifth.words));
+    assert_eq!(header as u64 + u64::from(number(header + 0x3C)), fifth.offset);
     // "0x00DA = 218", "0x0000, 0x0000, 0x7FFF = 65536 + 65536 + 32767 = 163839"
     assert_eq!(scp::step(&[0x00, 0xDA], 0), Ok(Step::Interval { ticks: 218, next: 1 }));
     assert_eq!(scp::step(&[0, 0, 0, 0, 0x7F, 0xFF], 0), Ok(Step::Interval { ticks: 163_839, next: 3 }));
@@ -69,7 +69,7 @@ fn layouts_of_real_tools_are_valid_and_read_alike() {
     for (name, style) in [("capture", CAPTURE), ("old", OLD_CAPTURE), ("one side", SINGLE_SIDED), ("read/write", READ_WRITE)] {
         let image = image(&style, 40);
         assert_eq!(scp::validate(&image), Ok(()), "{name}");
-        assert_eq!(scp::track(&image, 0).unwrap().place, 0x2B0, "{name}");
+        assert_eq!(scp::track(&image, 0).unwrap().offset, 0x2B0, "{name}");
         agree(name, &image);
     }
 }

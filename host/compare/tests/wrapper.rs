@@ -28,12 +28,12 @@ fn footer(found: reader::Footer) -> scp::Footer {
 
 fn track(found: reader::Track) -> scp::Track {
     let reader::Track { cylinder, head, place, revolutions } = found;
-    scp::Track { cylinder, head, place, revolutions }
+    scp::Track { cylinder, head, offset: place, revolutions }
 }
 
 fn revolution(found: reader::Revolution) -> scp::Revolution {
     let reader::Revolution { duration, words, place } = found;
-    scp::Revolution { duration, words, place }
+    scp::Revolution { duration, words, offset: place }
 }
 
 fn speeds((slowest, fastest): (f64, f64)) -> scp::TrackSpeeds {
@@ -49,9 +49,9 @@ fn expected(image: &mut [u8], call: &Call) -> Result<Answer, reader::Refusal> {
         Call::Track { track: t } => Answer::Track(track(reader::track(image, t)?)),
         Call::Revolution { track, revolution: k } => Answer::Revolution(revolution(reader::revolution(image, track, k)?)),
         Call::Flux { track, revolution } => {
-            let place = reader::revolution(image, track, revolution)?.place;
+            let offset = reader::revolution(image, track, revolution)?.place;
             let flux = reader::flux(image, track, revolution)?;
-            Answer::Flux { place, size: flux.len() as u64, sum: flux.iter().map(|&byte| u32::from(byte)).sum() }
+            Answer::Flux { offset, size: flux.len() as u64, sum: flux.iter().map(|&byte| u32::from(byte)).sum() }
         }
         Call::Speed { track, revolution } => Answer::Speed(reader::speed(image, track, revolution)?),
         Call::TrackSpeed { track } => Answer::TrackSpeed(reader::track_speed(image, track)?.map(speeds)),

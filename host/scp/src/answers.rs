@@ -72,15 +72,15 @@ pub struct Track {
     /// The track's number's remainder by 2.
     pub head: u32,
     /// The file offset of its header.
-    pub place: u64,
+    pub offset: u64,
     /// How many revolutions it has.
     pub revolutions: u32,
 }
 
 impl Track {
     /// A track of its 4 numbers.
-    pub(crate) fn of_numbers([cylinder, head, place, revolutions]: [u64; 4]) -> Track {
-        Track { cylinder: cylinder as u32, head: head as u32, place, revolutions: revolutions as u32 }
+    pub(crate) fn of_numbers([cylinder, head, offset, revolutions]: [u64; 4]) -> Track {
+        Track { cylinder: cylinder as u32, head: head as u32, offset, revolutions: revolutions as u32 }
     }
 }
 
@@ -92,13 +92,13 @@ pub struct Revolution {
     /// How many flux words it has.
     pub words: u32,
     /// The file offset of its flux.
-    pub place: u64,
+    pub offset: u64,
 }
 
 impl Revolution {
     /// A revolution of its 3 numbers.
-    pub(crate) fn of_numbers([duration, words, place]: [u64; 3]) -> Revolution {
-        Revolution { duration: duration as u32, words: words as u32, place }
+    pub(crate) fn of_numbers([duration, words, offset]: [u64; 3]) -> Revolution {
+        Revolution { duration: duration as u32, words: words as u32, offset }
     }
 }
 

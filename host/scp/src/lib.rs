@@ -7,7 +7,7 @@
 //! # let image = scp::example::image_a();
 //! scp::validate(&image)?;
 //! let revolution = scp::revolution(&image, 0, 0)?;
-//! assert_eq!((revolution.duration, revolution.words, revolution.place), (8_000_000, 4, 704));
+//! assert_eq!((revolution.duration, revolution.words, revolution.offset), (8_000_000, 4, 704));
 //! assert_eq!(scp::speed(&image, 0, 0)?, Some(300.0));
 //!
 //! let (intervals, open) = scp::all_intervals(scp::flux(&image, 0, 0)?)?;
@@ -104,7 +104,7 @@ pub fn tracks(image: &[u8]) -> Result<Vec<u32>, Refusal> {
 ///
 /// ```
 /// let track = scp::track(&scp::example::image_a(), 0)?;
-/// assert_eq!((track.cylinder, track.head, track.place, track.revolutions), (0, 0, 0x2B0, 1));
+/// assert_eq!((track.cylinder, track.head, track.offset, track.revolutions), (0, 0, 0x2B0, 1));
 /// assert_eq!(scp::track(&scp::example::image_a(), 1).unwrap_err().reason, scp::Reason::Absent);
 /// # Ok::<(), scp::Refusal>(())
 /// ```
@@ -134,7 +134,7 @@ pub fn revolution(image: &[u8], track: u32, revolution: u32) -> Result<Revolutio
 /// ```
 pub fn flux(image: &[u8], track: u32, revolution: u32) -> Result<&[u8], Refusal> {
     let found = self::revolution(image, track, revolution)?;
-    let start = found.place as usize;
+    let start = found.offset as usize;
     Ok(&image[start..start + 2 * found.words as usize])
 }
 

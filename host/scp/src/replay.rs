@@ -73,7 +73,7 @@ pub enum Answer {
     /// A revolution's flux: that part of the image as the calls before left it.
     Flux {
         /// Its file offset.
-        place: u64,
+        offset: u64,
         /// How many bytes it has.
         size: u64,
         /// Their sum modulo 2^32.
@@ -122,7 +122,7 @@ impl Call {
             Call::Footer => Answer::Footer(Footer::of_numbers(&first(values))),
             Call::Track { .. } => Answer::Track(Track::of_numbers(first(values))),
             Call::Revolution { .. } => Answer::Revolution(Revolution::of_numbers(first(values))),
-            Call::Flux { .. } => Answer::Flux { place: values[0], size: values[1], sum: values[2] as u32 },
+            Call::Flux { .. } => Answer::Flux { offset: values[0], size: values[1], sum: values[2] as u32 },
             Call::Speed { .. } => Answer::Speed((values[0] == 1).then(|| f64::from_bits(values[1]))),
             Call::TrackSpeed { .. } => Answer::TrackSpeed(
                 (values[0] == 1).then(|| TrackSpeeds { slowest: f64::from_bits(values[1]), fastest: f64::from_bits(values[2]) }),
@@ -146,7 +146,7 @@ fn first<const N: usize>(values: &[u64]) -> [u64; N] {
 /// let words = vec![0x01, 0x40, 0x00, 0x00, 0x00, 0x01, 0x00, 0xF0];
 /// let rewrite = Call::Rewrite { track: 0, revolution: 0, duration: 8_000_000, words };
 /// let calls = [rewrite, Call::Validate, Call::Flux { track: 0, revolution: 0 }];
-/// let flux = Answer::Flux { place: 704, size: 8, sum: 306 };
+/// let flux = Answer::Flux { offset: 704, size: 8, sum: 306 };
 /// assert_eq!(scp::replay(&mut image, &calls), [Ok(Answer::Rewritten), Ok(Answer::Valid), Ok(flux)]);
 /// assert_eq!(scp::header(&image)?.checksum, 885);
 /// # Ok::<(), scp::Refusal>(())

@@ -102,7 +102,7 @@ impl Temporary {
         }
         let mut attempt = 0;
         loop {
-            let path = folder.join(format!(".scp-{}-{attempt}.tmp", std::process::id()));
+            let path = folder.join(format!(".fluxproof-{}-{attempt}.tmp", std::process::id()));
             match options.open(&path) {
                 Ok(file) => return Ok((Temporary { path, renamed: false }, file)),
                 Err(error) if error.kind() == io::ErrorKind::AlreadyExists && attempt < ATTEMPTS => attempt += 1,

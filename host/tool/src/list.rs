@@ -1,4 +1,4 @@
-//! `scp list`: the listing of the rules, byte for byte.
+//! `fluxproof list`: the listing of the rules, byte for byte.
 
 use std::io::Write;
 

@@ -1,4 +1,4 @@
-//! The command `scp`: SuperCard Pro flux images on a test bench, by the proved library.
+//! The command `fluxproof`: SuperCard Pro flux images on a test bench, by the proved library.
 #![forbid(unsafe_code)]
 
 mod arguments;
@@ -30,7 +30,7 @@ static COMMANDS: [Command; 7] =
     [list::COMMAND, validate::COMMAND, show::COMMAND, read::COMMAND, patch::COMMAND, replay::COMMAND, plot::COMMAND];
 
 /// The help of the tool as a whole.
-const HELP: &str = include_str!("help/scp.txt");
+const HELP: &str = include_str!("help/fluxproof.txt");
 
 /// Runs the command line; the exit status is 0 for success, 1 for a refusal or failure, 2 for wrong usage.
 fn main() -> ExitCode {
@@ -49,19 +49,19 @@ fn main() -> ExitCode {
 /// Says on standard error why the status is not 0.
 fn complain(message: &str, status: u8) -> ExitCode {
     // Where standard error is closed nothing is left to tell it to.
-    let _ = writeln!(std::io::stderr(), "scp: {message}");
+    let _ = writeln!(std::io::stderr(), "fluxproof: {message}");
     ExitCode::from(status)
 }
 
 /// Finds what the first word asks for, and does it.
 fn run(mut words: Vec<OsString>, out: &mut dyn Write) -> Result<(), Failure> {
     if words.is_empty() {
-        return Err(Failure::Usage("no command is given; see \"scp --help\"".to_string()));
+        return Err(Failure::Usage("no command is given; see \"fluxproof --help\"".to_string()));
     }
     let first = words.remove(0);
     match first.to_string_lossy().as_ref() {
         "--help" | "-h" => Ok(out.write_all(HELP.as_bytes())?),
-        "--version" | "-V" => Ok(writeln!(out, "scp {}", env!("CARGO_PKG_VERSION"))?),
+        "--version" | "-V" => Ok(writeln!(out, "fluxproof {}", env!("CARGO_PKG_VERSION"))?),
         "help" => help(&words, out),
         name => command(find(name)?, words, out),
     }
@@ -72,7 +72,7 @@ fn find(name: &str) -> Result<&'static Command, Failure> {
     COMMANDS.iter().find(|command| command.name == name).ok_or_else(|| {
         let names = COMMANDS.each_ref().map(|command| command.name);
         let (kind, hint) = (if name.starts_with('-') { "option" } else { "command" }, suggestion(name, &names));
-        Failure::Usage(format!("unknown {kind} \"{}\"{hint}; see \"scp --help\"", files::shown(name)))
+        Failure::Usage(format!("unknown {kind} \"{}\"{hint}; see \"fluxproof --help\"", files::shown(name)))
     })
 }
 
@@ -82,7 +82,7 @@ fn help(words: &[OsString], out: &mut dyn Write) -> Result<(), Failure> {
         [] => HELP,
         [name] if name == "help" || name == "--help" || name == "-h" => HELP,
         [name] => find(&name.to_string_lossy())?.help,
-        _ => return Err(Failure::Usage("help takes one command; see \"scp --help\"".to_string())),
+        _ => return Err(Failure::Usage("help takes one command; see \"fluxproof --help\"".to_string())),
     };
     Ok(out.write_all(text.as_bytes())?)
 }
@@ -95,7 +95,7 @@ fn command(command: &Command, words: Vec<OsString>, out: &mut dyn Write) -> Resu
         Err(failure) => Err(failure),
     };
     done.map_err(|failure| match failure {
-        Failure::Usage(message) => Failure::Usage(format!("{}: {message}; see \"scp help {}\"", command.name, command.name)),
+        Failure::Usage(message) => Failure::Usage(format!("{}: {message}; see \"fluxproof help {}\"", command.name, command.name)),
         other => other,
     })
 }

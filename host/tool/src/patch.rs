@@ -1,4 +1,4 @@
-//! `scp patch`: an image with one revolution rewritten.
+//! `fluxproof patch`: an image with one revolution rewritten.
 
 use std::ffi::OsStr;
 use std::io::Write;

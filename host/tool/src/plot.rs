@@ -1,4 +1,4 @@
-//! `scp plot`: the intervals of a revolution as a drawing.
+//! `fluxproof plot`: the intervals of a revolution as a drawing.
 
 mod canvas;
 mod drawing;

@@ -1,4 +1,4 @@
-//! `scp read`: the intervals of a revolution, one on a line.
+//! `fluxproof read`: the intervals of a revolution, one on a line.
 
 use std::io::Write;
 

@@ -1,4 +1,4 @@
-//! `scp replay`: a sequence of calls on an image, run by the library in one go.
+//! `fluxproof replay`: a sequence of calls on an image, run by the library in one go.
 
 use std::io::Write;
 
@@ -148,10 +148,10 @@ fn say_answer(answer: Answer) -> String {
             footer.versions.map(|version| format!("0x{version:02X}")).join(" ")
         ),
         Answer::Track(track) => {
-            format!("cylinder {} head {} offset {} revolutions {}", track.cylinder, track.head, track.place, track.revolutions)
+            format!("cylinder {} head {} offset {} revolutions {}", track.cylinder, track.head, track.offset, track.revolutions)
         }
-        Answer::Revolution(found) => format!("duration {} words {} offset {}", found.duration, found.words, found.place),
-        Answer::Flux { place, size, sum } => format!("offset {place} bytes {size} sum {sum}"),
+        Answer::Revolution(found) => format!("duration {} words {} offset {}", found.duration, found.words, found.offset),
+        Answer::Flux { offset, size, sum } => format!("offset {offset} bytes {size} sum {sum}"),
         Answer::Speed(speed) => speed.map_or("none".to_string(), |rpm| format!("{rpm:?} rpm")),
         Answer::TrackSpeed(None) => "none".to_string(),
         Answer::TrackSpeed(Some(speeds)) => format!("slowest {:?} rpm fastest {:?} rpm", speeds.slowest, speeds.fastest),

@@ -1,4 +1,4 @@
-//! `scp show`: all that an image says of itself, for people.
+//! `fluxproof show`: all that an image says of itself, for people.
 
 use std::fmt::Display;
 use std::io::{self, Write};
@@ -140,9 +140,9 @@ fn say_tracks(input: &Input, tracks: &[u32], out: &mut dyn Write) -> Result<(), 
         let found = input.ask(|image| scp::track(image, track))?;
         let speeds = input.ask(|image| scp::track_speed(image, track))?;
         let (slowest, fastest) = speeds.map(|speeds| (speeds.slowest, speeds.fastest)).unzip();
-        let (cylinder, head, place, revolutions) = (found.cylinder, found.head, found.place, found.revolutions);
+        let (cylinder, head, offset, revolutions) = (found.cylinder, found.head, found.offset, found.revolutions);
         let (slowest, fastest) = (rpm(slowest), rpm(fastest));
-        writeln!(out, "{track:>5} {cylinder:>8} {head:>4} 0x{place:08X} {revolutions:>11} {slowest:>13} {fastest:>13}")?;
+        writeln!(out, "{track:>5} {cylinder:>8} {head:>4} 0x{offset:08X} {revolutions:>11} {slowest:>13} {fastest:>13}")?;
     }
     Ok(())
 }

@@ -1,4 +1,4 @@
-//! `scp validate`: whether images obey the rules, a line for each.
+//! `fluxproof validate`: whether images obey the rules, a line for each.
 
 use std::ffi::OsStr;
 use std::io::Write;

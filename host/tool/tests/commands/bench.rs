@@ -26,7 +26,7 @@ impl Bench {
     /// A new folder with image A as a.scp.
     pub fn new() -> Bench {
         let number = FOLDERS.fetch_add(1, Ordering::Relaxed);
-        let folder = std::env::temp_dir().join(format!("scp-tool-test-{}-{number}", std::process::id()));
+        let folder = std::env::temp_dir().join(format!("fluxproof-test-{}-{number}", std::process::id()));
         fs::create_dir_all(&folder).expect("a temporary folder");
         let bench = Bench { folder };
         bench.put("a.scp", &scp::example::image_a());
@@ -63,7 +63,7 @@ impl Bench {
 
     /// Runs the command with the words of a line and some standard input.
     pub fn run_with(&self, line: &str, input: &[u8]) -> Run {
-        let mut command = Command::new(env!("CARGO_BIN_EXE_scp"));
+        let mut command = Command::new(env!("CARGO_BIN_EXE_fluxproof"));
         command.args(line.split_whitespace()).current_dir(&self.folder);
         let mut child = command.stdin(Stdio::piped()).stdout(Stdio::piped()).stderr(Stdio::piped()).spawn().expect("the command runs");
         // A command that does not read its input closes it.
@@ -77,7 +77,7 @@ impl Bench {
     pub fn fails(&self, line: &str, status: i32, part: &str) {
         let run = self.run(line);
         assert_eq!((run.status, run.out.as_str()), (status, ""), "{line}: {run:?}");
-        assert!(run.err.starts_with("scp: ") && run.err.contains(part) && run.err.lines().count() == 1, "{line}: {run:?}");
+        assert!(run.err.starts_with("fluxproof: ") && run.err.contains(part) && run.err.lines().count() == 1, "{line}: {run:?}");
     }
 
     /// Runs the command and expects it to succeed silently on standard error; gives its output.

@@ -1,4 +1,4 @@
-//! `scp list`.
+//! `fluxproof list`.
 
 use crate::bench::{damaged_a, image, Bench};
 

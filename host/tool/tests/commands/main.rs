@@ -1,4 +1,4 @@
-//! Runs the command `scp` in temporary folders, as a user does.
+//! Runs the command `fluxproof` in temporary folders, as a user does.
 
 mod bench;
 mod list;

@@ -1,4 +1,4 @@
-//! `scp patch`.
+//! `fluxproof patch`.
 
 use std::fs;
 

@@ -1,4 +1,4 @@
-//! `scp plot`.
+//! `fluxproof plot`.
 
 use crate::bench::{image, Bench};
 

@@ -1,4 +1,4 @@
-//! `scp read`.
+//! `fluxproof read`.
 
 use std::process::{Command, Stdio};
 
@@ -42,7 +42,7 @@ fn a_closed_pipe_is_no_failure() {
     let bench = Bench::new();
     let words = vec![160; 100_000];
     bench.put("b.scp", &image(1, &[(0, &[(8_000_000, &words)])]));
-    let mut command = Command::new(env!("CARGO_BIN_EXE_scp"));
+    let mut command = Command::new(env!("CARGO_BIN_EXE_fluxproof"));
     command.args(["read", "b.scp", "0", "0"]).current_dir(&bench.folder).stdout(Stdio::piped()).stderr(Stdio::piped());
     let mut child = command.spawn().expect("the command runs");
     drop(child.stdout.take());
@@ -55,7 +55,7 @@ fn a_closed_pipe_is_no_failure() {
 fn a_full_disk_is_a_failure() {
     let bench = Bench::new();
     let full = std::fs::OpenOptions::new().write(true).open("/dev/full").expect("the full device");
-    let mut command = Command::new(env!("CARGO_BIN_EXE_scp"));
+    let mut command = Command::new(env!("CARGO_BIN_EXE_fluxproof"));
     let done = command.args(["read", "a.scp", "0", "0"]).current_dir(&bench.folder).stdout(full).output().expect("the command runs");
     assert_eq!(done.status.code(), Some(1));
     assert!(String::from_utf8_lossy(&done.stderr).contains("standard output: No space left"));

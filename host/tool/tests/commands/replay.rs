@@ -1,4 +1,4 @@
-//! `scp replay`.
+//! `fluxproof replay`.
 
 use crate::bench::{damaged_a, image, with_footer, Bench};
 

@@ -1,4 +1,4 @@
-//! `scp show`.
+//! `fluxproof show`.
 
 use crate::bench::{damaged_a, image, with_footer, Bench};
 

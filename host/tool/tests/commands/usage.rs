@@ -27,19 +27,19 @@ fn help_is_there_for_all() {
 #[test]
 fn the_version_is_the_package_s() {
     let bench = Bench::new();
-    assert_eq!(bench.passes("--version"), format!("scp {}\n", env!("CARGO_PKG_VERSION")));
+    assert_eq!(bench.passes("--version"), format!("fluxproof {}\n", env!("CARGO_PKG_VERSION")));
 }
 
 #[test]
 fn wrong_command_lines_name_the_help() {
     let bench = Bench::new();
-    bench.fails("", 2, "see \"scp --help\"");
-    bench.fails("lst a.scp", 2, "unknown command \"lst\" (did you mean \"list\"?); see \"scp --help\"");
-    bench.fails("frobnicate", 2, "unknown command \"frobnicate\"; see \"scp --help\"");
-    bench.fails("--frobnicate", 2, "unknown option \"--frobnicate\"; see \"scp --help\"");
+    bench.fails("", 2, "see \"fluxproof --help\"");
+    bench.fails("lst a.scp", 2, "unknown command \"lst\" (did you mean \"list\"?); see \"fluxproof --help\"");
+    bench.fails("frobnicate", 2, "unknown command \"frobnicate\"; see \"fluxproof --help\"");
+    bench.fails("--frobnicate", 2, "unknown option \"--frobnicate\"; see \"fluxproof --help\"");
     bench.fails("help frobnicate", 2, "unknown command \"frobnicate\"");
-    bench.fails("read a.scp 0 0 --cvs", 2, "read: unknown option \"--cvs\" (did you mean \"--csv\"?); see \"scp help read\"");
-    bench.fails("list a.scp b.scp", 2, "list: unexpected argument \"b.scp\" after FILE; see \"scp help list\"");
+    bench.fails("read a.scp 0 0 --cvs", 2, "read: unknown option \"--cvs\" (did you mean \"--csv\"?); see \"fluxproof help read\"");
+    bench.fails("list a.scp b.scp", 2, "list: unexpected argument \"b.scp\" after FILE; see \"fluxproof help list\"");
     bench.fails("read a.scp 0 0 --us --us", 2, "--us is given twice");
     bench.fails("read a.scp 0 0 --us=1", 2, "--us takes no value");
     bench.fails("patch a.scp b.scp 0 0 --duration", 2, "--duration needs a value");

@@ -1,4 +1,4 @@
-//! `scp validate`.
+//! `fluxproof validate`.
 
 use crate::bench::{damaged_a, Bench};
 
