@@ -55,18 +55,18 @@ impl Arguments {
         let known = |names: &[&'static str]| names.iter().copied().find(|&name| name == given);
         let (name, value) = match (known(command.flags), known(command.values)) {
             (Some(name), _) if attached.is_none() => (name, OsString::new()),
-            (Some(name), _) => return Err(Failure::Usage(format!("{name} takes no value"))),
+            (Some(name), _) => return Err(Failure::usage(format!("{name} takes no value"))),
             (None, Some(name)) => {
                 let value = attached.or_else(|| words.next());
-                (name, value.ok_or_else(|| Failure::Usage(format!("{name} needs a value")))?)
+                (name, value.ok_or_else(|| Failure::usage(format!("{name} needs a value")))?)
             }
             (None, None) => {
                 let names: Vec<&str> = [command.flags, command.values].concat();
-                return Err(Failure::Usage(format!("unknown option \"{}\"{}", shown(given), suggestion(given, &names))));
+                return Err(Failure::usage(format!("unknown option \"{}\"{}", shown(given), suggestion(given, &names))));
             }
         };
         if self.value(name).is_some() {
-            return Err(Failure::Usage(format!("{name} is given twice")));
+            return Err(Failure::usage(format!("{name} is given twice")));
         }
         self.options.push((name, value));
         Ok(())
@@ -75,10 +75,10 @@ impl Arguments {
     /// The operands, if they are as many as the names.
     pub fn operands<const N: usize>(&self, names: [&str; N]) -> Result<[&OsStr; N], Failure> {
         if let Some(missing) = names.get(self.operands.len()) {
-            return Err(Failure::Usage(format!("{missing} is missing")));
+            return Err(Failure::usage(format!("{missing} is missing")));
         }
         if let Some(extra) = self.operands.get(N) {
-            return Err(Failure::Usage(format!("unexpected argument \"{}\" after {}", shown(extra), names.join(" "))));
+            return Err(Failure::usage(format!("unexpected argument \"{}\" after {}", shown(extra), names.join(" "))));
         }
         Ok(std::array::from_fn(|index| self.operands[index].as_os_str()))
     }
@@ -96,7 +96,7 @@ impl Arguments {
 
 /// The number that an argument is.
 pub fn number_of(name: &str, text: &OsStr) -> Result<u32, Failure> {
-    number(&text.to_string_lossy()).map_err(|message| Failure::Usage(format!("{name}: {message}")))
+    number(&text.to_string_lossy()).map_err(|message| Failure::usage(format!("{name}: {message}")))
 }
 
 /// The numbers of a track and a revolution.

@@ -31,7 +31,7 @@ pub struct Destination {
 impl Destination {
     /// The input itself is taken only with `--in-place`, another file that exists only with `--force`.
     pub fn new(out: &OsStr, input: &Input, arguments: &Arguments, kind: Kind) -> Result<Destination, Failure> {
-        let refuse = |message: &str| Failure::Failed(format!("{}: {message}", shown(out)));
+        let refuse = |message: &str| Failure::file(format!("{}: {message}", shown(out)));
         let (path, found) = look(out).map_err(refuse)?;
         let (source, permissions) = input.origin.clone().unzip();
         let same = found.is_some() && found == source;
@@ -47,7 +47,7 @@ impl Destination {
 
     /// Writes the bytes to a temporary file beside the destination, which then takes its name.
     pub fn write(&self, bytes: &[u8]) -> Result<(), Failure> {
-        self.try_write(bytes).map_err(|error| Failure::Failed(format!("{}: cannot be written: {error}", shown(&self.path))))
+        self.try_write(bytes).map_err(|error| Failure::file(format!("{}: cannot be written: {error}", shown(&self.path))))
     }
 
     /// The same, with the system's error.

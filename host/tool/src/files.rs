@@ -43,13 +43,13 @@ impl Input {
 
     /// Reads a file, or standard input where it is named "-".
     pub fn read(file: &OsStr) -> Result<Input, Failure> {
-        Input::try_read(file).map_err(Failure::Failed)
+        Input::try_read(file).map_err(Failure::file)
     }
 
     /// Reads an image that is to be written again, so not from standard input.
     pub fn read_file(file: &OsStr) -> Result<Input, Failure> {
         if file == "-" {
-            return Err(Failure::Usage("the image cannot come from standard input (a file of that name is ./-)".to_string()));
+            return Err(Failure::usage("the image cannot come from standard input (a file of that name is ./-)"));
         }
         Input::read(file)
     }
@@ -62,7 +62,7 @@ impl Input {
     /// The input, if it was read to its end.
     pub fn uncut(self) -> Result<Input, Failure> {
         if self.bytes.len() as u64 > GREATEST {
-            return Err(Failure::Failed(format!("{}: longer than 268,435,456 bytes", self.name)));
+            return Err(Failure::file(format!("{}: longer than 268,435,456 bytes", self.name)));
         }
         Ok(self)
     }
@@ -74,12 +74,12 @@ impl Input {
 
     /// The failure that a refusal of this image is.
     pub fn refused(&self, refusal: Refusal) -> Failure {
-        Failure::Failed(format!("{}: {refusal}", self.name))
+        Failure::refused(format!("{}: {refusal}", self.name))
     }
 
     /// The failure that a line of this text is.
     pub fn bad_line(&self, line: usize, message: impl std::fmt::Display) -> Failure {
-        Failure::Failed(format!("{}: line {line}: {message}", self.name))
+        Failure::usage(format!("{}: line {line}: {message}", self.name))
     }
 
     /// The lines with their numbers, without comments and the space around them; those that then are empty are left out.

@@ -3,7 +3,7 @@
 use std::io::Write;
 
 use crate::arguments::{Arguments, Command};
-use crate::failure::Failure;
+use crate::failure::{Failure, Status};
 use crate::files::Input;
 use crate::flux::count_intervals;
 
@@ -16,7 +16,7 @@ fn run(arguments: &Arguments, out: &mut dyn Write) -> Result<(), Failure> {
     let input = Input::read(file)?;
     if let Err(refusal) = scp::validate(&input.bytes) {
         writeln!(out, "refused {} at {}", refusal.reason.number(), refusal.position)?;
-        return Err(Failure::Said);
+        return Err(Failure::Said(Status::Refused));
     }
     let header = input.ask(scp::header)?;
     let tracks = input.ask(scp::tracks)?;

@@ -23,7 +23,7 @@ use std::io::Write;
 use std::process::ExitCode;
 
 use arguments::{suggestion, Arguments, Command};
-use failure::Failure;
+use failure::{Failure, Status};
 
 /// All commands, in the order of the help.
 static COMMANDS: [Command; 7] =
@@ -32,7 +32,7 @@ static COMMANDS: [Command; 7] =
 /// The help of the tool as a whole.
 const HELP: &str = include_str!("help/fluxproof.txt");
 
-/// Runs the command line; the exit status is 0 for success, 1 for a refusal or failure, 2 for wrong usage.
+/// Runs the command line; the exit status is 0 for success, else that of the failure.
 fn main() -> ExitCode {
     let words: Vec<OsString> = std::env::args_os().skip(1).collect();
     let mut out = failure::standard_output();
@@ -40,23 +40,22 @@ fn main() -> ExitCode {
     let flushed = out.flush().map_err(Failure::from);
     match ended.and(flushed) {
         Ok(()) => ExitCode::SUCCESS,
-        Err(Failure::Said) => ExitCode::from(1),
-        Err(Failure::Failed(message)) => complain(&message, 1),
-        Err(Failure::Usage(message)) => complain(&message, 2),
+        Err(Failure::Said(status)) => ExitCode::from(status as u8),
+        Err(Failure::Told(status, message)) => complain(&message, status),
     }
 }
 
 /// Says on standard error why the status is not 0.
-fn complain(message: &str, status: u8) -> ExitCode {
+fn complain(message: &str, status: Status) -> ExitCode {
     // Where standard error is closed nothing is left to tell it to.
     let _ = writeln!(std::io::stderr(), "fluxproof: {message}");
-    ExitCode::from(status)
+    ExitCode::from(status as u8)
 }
 
 /// Finds what the first word asks for, and does it.
 fn run(mut words: Vec<OsString>, out: &mut dyn Write) -> Result<(), Failure> {
     if words.is_empty() {
-        return Err(Failure::Usage("no command is given; see \"fluxproof --help\"".to_string()));
+        return Err(Failure::usage("no command is given; see \"fluxproof --help\""));
     }
     let first = words.remove(0);
     match first.to_string_lossy().as_ref() {
@@ -72,7 +71,7 @@ fn find(name: &str) -> Result<&'static Command, Failure> {
     COMMANDS.iter().find(|command| command.name == name).ok_or_else(|| {
         let names = COMMANDS.each_ref().map(|command| command.name);
         let (kind, hint) = (if name.starts_with('-') { "option" } else { "command" }, suggestion(name, &names));
-        Failure::Usage(format!("unknown {kind} \"{}\"{hint}; see \"fluxproof --help\"", files::shown(name)))
+        Failure::usage(format!("unknown {kind} \"{}\"{hint}; see \"fluxproof --help\"", files::shown(name)))
     })
 }
 
@@ -82,7 +81,7 @@ fn help(words: &[OsString], out: &mut dyn Write) -> Result<(), Failure> {
         [] => HELP,
         [name] if name == "help" || name == "--help" || name == "-h" => HELP,
         [name] => find(&name.to_string_lossy())?.help,
-        _ => return Err(Failure::Usage("help takes one command; see \"fluxproof --help\"".to_string())),
+        _ => return Err(Failure::usage("help takes one command; see \"fluxproof --help\"")),
     };
     Ok(out.write_all(text.as_bytes())?)
 }
@@ -95,7 +94,9 @@ fn command(command: &Command, words: Vec<OsString>, out: &mut dyn Write) -> Resu
         Err(failure) => Err(failure),
     };
     done.map_err(|failure| match failure {
-        Failure::Usage(message) => Failure::Usage(format!("{}: {message}; see \"fluxproof help {}\"", command.name, command.name)),
+        Failure::Told(Status::Usage, message) => {
+            Failure::usage(format!("{}: {message}; see \"fluxproof help {}\"", command.name, command.name))
+        }
         other => other,
     })
 }

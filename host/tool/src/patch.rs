@@ -49,7 +49,7 @@ fn run(arguments: &Arguments, out: &mut dyn Write) -> Result<(), Failure> {
 /// The new duration, or nothing to keep the old one.
 fn duration(arguments: &Arguments) -> Result<Option<u32>, Failure> {
     match arguments.value("--duration") {
-        None => Err(Failure::Usage("--duration is missing (a number of ticks, or keep)".to_string())),
+        None => Err(Failure::usage("--duration is missing (a number of ticks, or keep)")),
         Some(text) if text == "keep" => Ok(None),
         Some(text) => number_of("--duration", text).map(Some),
     }
@@ -61,8 +61,8 @@ impl<'a> Source<'a> {
         match (arguments.value("--times"), arguments.value("--words")) {
             (Some(file), None) => Ok(Source::Times(file)),
             (None, Some(file)) => Ok(Source::Words(file)),
-            (None, None) => Err(Failure::Usage("--times or --words is missing".to_string())),
-            (Some(_), Some(_)) => Err(Failure::Usage("--times and --words exclude each other".to_string())),
+            (None, None) => Err(Failure::usage("--times or --words is missing")),
+            (Some(_), Some(_)) => Err(Failure::usage("--times and --words exclude each other")),
         }
     }
 

@@ -21,7 +21,7 @@ fn run(arguments: &Arguments, out: &mut dyn Write) -> Result<(), Failure> {
     let target = arguments.value("--out");
     for flag in ["--force", "--in-place"] {
         if target.is_none() && arguments.has(flag) {
-            return Err(Failure::Usage(format!("{flag} is for --out, which is missing")));
+            return Err(Failure::usage(format!("{flag} is for --out, which is missing")));
         }
     }
     let mut input = Input::read_file(file)?;
