@@ -1,6 +1,7 @@
 //! Finds the archive of the proved library, or has `rt staticlib scp_c` build it.
 //!
-//! `SCP_ARCHIVE_DIR` names a folder that holds a built `libscp_c.a`; then nothing is built.
+//! `SCP_ARCHIVE_DIR` names a folder that holds a built `libscp_c.a`; then nothing is built. A package that depends on this one gets the
+//! identity of the toolchain that proved the archive as `DEP_SCP_C_TOOLCHAIN`.
 
 use std::path::{Path, PathBuf};
 use std::process::{exit, Command};
@@ -8,12 +9,16 @@ use std::time::SystemTime;
 
 const ARCHIVE: &str = "libscp_c.a";
 
+/// Beside an archive that was built here: the identity of the toolchain that built it.
+const IDENTITY: &str = "libscp_c.toolchain";
+
 fn main() {
     println!("cargo:rerun-if-env-changed=SCP_ARCHIVE_DIR");
-    let folder = match std::env::var_os("SCP_ARCHIVE_DIR") {
+    let (folder, toolchain) = match std::env::var_os("SCP_ARCHIVE_DIR") {
         Some(folder) => named_archive(PathBuf::from(folder)),
         None => built_archive(),
     };
+    println!("cargo:toolchain={toolchain}");
     // A copy, since `rt` removes and renews its own folder.
     let out = PathBuf::from(std::env::var_os("OUT_DIR").expect("cargo names the folder for what is built"));
     let archive = folder.join(ARCHIVE);
@@ -24,14 +29,15 @@ fn main() {
     println!("cargo:rustc-link-lib=static=scp_c");
 }
 
-/// The folder that the variable names; its archive may be renewed at any time.
-fn named_archive(folder: PathBuf) -> PathBuf {
+/// The folder that the variable names, and the identity beside its archive, which may be renewed at any time.
+fn named_archive(folder: PathBuf) -> (PathBuf, String) {
     println!("cargo:rerun-if-changed={}", folder.join(ARCHIVE).display());
-    folder
+    let toolchain = std::fs::read_to_string(folder.join(IDENTITY));
+    (folder, toolchain.unwrap_or_else(|_| "unknown (the archive is one that SCP_ARCHIVE_DIR names)".to_string()))
 }
 
-/// The folder of the archive that `rt` builds: as it is where no source is newer, else renewed.
-fn built_archive() -> PathBuf {
+/// The folder of the archive that `rt` builds, and the identity of `rt`: as it is where no source is newer, else renewed.
+fn built_archive() -> (PathBuf, String) {
     let manifest = std::env::var("CARGO_MANIFEST_DIR").expect("cargo names the package's folder");
     let root = Path::new(&manifest).join("../..");
     let mut sources = vec![root.join("crates.txt")];
@@ -43,10 +49,16 @@ fn built_archive() -> PathBuf {
     }
     let folder = root.join("target").join("staticlib");
     let built = changed(&folder.join(ARCHIVE));
-    if built.is_none() || sources.iter().any(|source| newest(source) > built) {
-        build(&root);
+    let toolchain = rt(&root, &["version"]).trim().to_string();
+    let other = std::fs::read_to_string(folder.join(IDENTITY)).is_ok_and(|builder| builder != toolchain);
+    if built.is_none() || other || sources.iter().any(|source| newest(source) > built) {
+        // It takes minutes from nothing, and half a minute where all is proved.
+        rt(&root, &["staticlib", "scp_c"]);
+        if let Err(error) = std::fs::write(folder.join(IDENTITY), &toolchain) {
+            fail(&format!("{}: {error}", folder.join(IDENTITY).display()));
+        }
     }
-    folder
+    (folder, toolchain)
 }
 
 /// When a file was last changed; nothing where there is none.
@@ -62,12 +74,13 @@ fn newest(path: &Path) -> Option<SystemTime> {
     }
 }
 
-/// Has the archive proved and built, which takes minutes from nothing and half a minute where all is proved.
-fn build(root: &Path) {
-    match Command::new("rt").args(["staticlib", "scp_c"]).current_dir(root).output() {
-        Ok(done) if done.status.success() => {}
+/// What a command of the toolchain prints.
+fn rt(root: &Path, words: &[&str]) -> String {
+    match Command::new("rt").args(words).current_dir(root).output() {
+        Ok(done) if done.status.success() => String::from_utf8_lossy(&done.stdout).into_owned(),
         Ok(done) => fail(&format!(
-            "`rt staticlib scp_c` failed ({}):\n{}{}",
+            "`rt {}` failed ({}):\n{}{}",
+            words.join(" "),
             done.status,
             String::from_utf8_lossy(&done.stdout),
             String::from_utf8_lossy(&done.stderr)

@@ -5,8 +5,7 @@ use std::io::{self, Write};
 
 use scp::Refusal;
 
-/// Where the bytes start that the checksum adds.
-const SUMMED_FROM: usize = 0x10;
+use crate::layout::Layout;
 
 /// The checksum of an image, and whether it is as it must be.
 pub struct Checksum {
@@ -24,8 +23,7 @@ impl Checksum {
     /// The checksum of an image that opens.
     pub fn of(image: &[u8]) -> Result<Checksum, Refusal> {
         let header = scp::header(image)?;
-        let bytes = image.get(SUMMED_FROM..).unwrap_or_default();
-        let sum = bytes.iter().fold(0, |sum: u32, &byte| sum.wrapping_add(u32::from(byte)));
+        let sum = Layout(image).sum();
         Ok(Checksum { stored: header.checksum, sum, read_write: header.is_read_write(), sound: scp::validate(image).is_ok() })
     }
 }

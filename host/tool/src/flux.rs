@@ -1,20 +1,35 @@
 //! Walks over flux, an interval at a time.
 
-use scp::Step;
+use scp::{Refusal, Step};
 
 use crate::failure::Failure;
 use crate::files::Input;
 
 /// Hands each interval of a revolution on in order, and gives the open time.
-pub fn each_interval(
-    input: &Input,
-    (track, revolution): (u32, u32),
-    mut take: impl FnMut(u64) -> Result<(), Failure>,
-) -> Result<u64, Failure> {
-    let flux = input.ask(|image| scp::flux(image, track, revolution))?;
+pub fn each_interval(input: &Input, place: (u32, u32), take: impl FnMut(u64) -> Result<(), Failure>) -> Result<u64, Failure> {
+    let flux = input.ask_of(place, scp::flux)?;
+    walk(flux, |refusal| input.failure(refusal), take)
+}
+
+/// How many intervals flux has, and its open time.
+pub fn count_intervals(flux: &[u8]) -> Result<(u64, u64), Refusal> {
+    let mut count = 0;
+    let open = walk(
+        flux,
+        |refusal| refusal,
+        |_| {
+            count += 1;
+            Ok(())
+        },
+    )?;
+    Ok((count, open))
+}
+
+/// Steps over the intervals of flux to its open time.
+fn walk<E>(flux: &[u8], refused: impl Fn(Refusal) -> E, mut take: impl FnMut(u64) -> Result<(), E>) -> Result<u64, E> {
     let mut word = 0;
     loop {
-        match scp::step(flux, word).map_err(|refusal| input.refused(refusal))? {
+        match scp::step(flux, word).map_err(&refused)? {
             Step::Interval { ticks, next } => {
                 take(ticks)?;
                 word = next;
@@ -22,14 +37,4 @@ pub fn each_interval(
             Step::Open { ticks } => return Ok(ticks),
         }
     }
-}
-
-/// How many intervals a revolution has, and its open time.
-pub fn count_intervals(input: &Input, place: (u32, u32)) -> Result<(u64, u64), Failure> {
-    let mut count = 0;
-    let open = each_interval(input, place, |_| {
-        count += 1;
-        Ok(())
-    })?;
-    Ok((count, open))
 }

@@ -33,8 +33,8 @@ fn run(arguments: &Arguments, out: &mut dyn Write) -> Result<(), Failure> {
 /// The line of a revolution; the rules call it a turn.
 fn say_revolution(input: &Input, place: (u32, u32), out: &mut dyn Write) -> Result<(), Failure> {
     let (track, revolution) = place;
-    let found = input.ask(|image| scp::revolution(image, track, revolution))?;
-    let (intervals, open) = count_intervals(input, place)?;
+    let found = input.ask_of(place, scp::revolution)?;
+    let (intervals, open) = input.ask_of(place, |image, track, revolution| count_intervals(scp::flux(image, track, revolution)?))?;
     let (ticks, words) = (found.duration, found.words);
     Ok(writeln!(out, "track {track} turn {revolution} ticks {ticks} words {words} intervals {intervals} open {open}")?)
 }

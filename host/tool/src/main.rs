@@ -8,11 +8,13 @@ mod destination;
 mod failure;
 mod files;
 mod flux;
+mod layout;
 mod list;
 mod numbers;
 mod patch;
 mod plot;
 mod read;
+mod reasons;
 mod replay;
 mod show;
 mod times;
@@ -28,6 +30,19 @@ use failure::{Failure, Status};
 /// All commands, in the order of the help.
 static COMMANDS: [Command; 7] =
     [list::COMMAND, validate::COMMAND, show::COMMAND, read::COMMAND, patch::COMMAND, replay::COMMAND, plot::COMMAND];
+
+/// Who judges: the tool, its commit, the toolchain that proved the library, and the sum of that toolchain's logic.
+const VERSION: &str = concat!(
+    "fluxproof ",
+    env!("CARGO_PKG_VERSION"),
+    "\ncommit ",
+    env!("FLUXPROOF_COMMIT"),
+    "\ntoolchain ",
+    env!("FLUXPROOF_TOOLCHAIN"),
+    "\nlogic ",
+    env!("FLUXPROOF_LOGIC"),
+    "\n"
+);
 
 /// The help of the tool as a whole.
 const HELP: &str = include_str!("help/fluxproof.txt");
@@ -60,7 +75,7 @@ fn run(mut words: Vec<OsString>, out: &mut dyn Write) -> Result<(), Failure> {
     let first = words.remove(0);
     match first.to_string_lossy().as_ref() {
         "--help" | "-h" => Ok(out.write_all(HELP.as_bytes())?),
-        "--version" | "-V" => Ok(writeln!(out, "fluxproof {}", env!("CARGO_PKG_VERSION"))?),
+        "--version" | "-V" => Ok(out.write_all(VERSION.as_bytes())?),
         "help" => help(&words, out),
         name => command(find(name)?, words, out),
     }

@@ -8,6 +8,7 @@ use crate::checksum::{say_change, Checksum};
 use crate::destination::{Destination, Kind};
 use crate::failure::Failure;
 use crate::files::{shown, Input};
+use crate::reasons::Asked;
 use crate::times::words_of_times;
 
 /// The command.
@@ -32,12 +33,12 @@ fn run(arguments: &Arguments, out: &mut dyn Write) -> Result<(), Failure> {
     let (duration, source) = (duration(arguments)?, Source::of(arguments)?);
     let mut input = Input::read_file(file)?;
     let destination = Destination::new(target, &input, arguments, Kind::Image)?;
-    let old = input.ask(|image| scp::revolution(image, track, revolution))?;
+    let old = input.ask_of((track, revolution), scp::revolution)?;
     let before = input.ask(Checksum::of)?;
     let words = source.words(old.words)?;
     let duration = duration.unwrap_or(old.duration);
     let done = scp::rewrite(&mut input.bytes, track, revolution, duration, &words);
-    done.map_err(|refusal| input.refused(refusal))?;
+    done.map_err(|refusal| input.refused(Asked { track, revolution, size: words.len() }, refusal))?;
     let after = input.ask(Checksum::of)?;
     destination.write(&input.bytes)?;
     writeln!(out, "track {track} revolution {revolution} of {} rewritten in {}", input.name, shown(target))?;

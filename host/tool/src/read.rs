@@ -18,7 +18,7 @@ fn run(arguments: &Arguments, out: &mut dyn Write) -> Result<(), Failure> {
     let (csv, us) = (arguments.has("--csv"), arguments.has("--us"));
     let unit = |ticks: u64| if us { microseconds(ticks) } else { ticks.to_string() };
     let input = Input::read(file)?;
-    input.ask(|image| scp::revolution(image, place.0, place.1))?;
+    input.ask_of(place, scp::revolution)?;
     if csv {
         writeln!(out, "index,{}", if us { "microseconds" } else { "ticks" })?;
     }

@@ -1,5 +1,7 @@
 //! `fluxproof show`: all that an image says of itself, for people.
 
+mod refused;
+
 use std::fmt::Display;
 use std::io::{self, Write};
 
@@ -8,10 +10,11 @@ use scp::{Footer, Header, STRING_NAMES};
 use crate::arguments::{Arguments, Command};
 use crate::checksum::Checksum;
 use crate::dates::utc;
-use crate::failure::Failure;
+use crate::failure::{Failure, Status};
 use crate::files::Input;
 use crate::flux::count_intervals;
 use crate::numbers::{grouped, milliseconds};
+use crate::reasons;
 
 /// The command.
 pub const COMMAND: Command = Command { name: "show", flags: &[], values: &[], help: include_str!("help/show.txt"), run };
@@ -55,10 +58,27 @@ const DISKS: [(u8, &str); 22] = [
     (0x60, "Roland D-20"),
 ];
 
-/// Shows an image that opens, sound or damaged.
+/// Shows an image: where it is refused the refusal first, and then what can still be read.
 fn run(arguments: &Arguments, out: &mut dyn Write) -> Result<(), Failure> {
     let [file] = arguments.operands(["FILE"])?;
     let input = Input::read(file)?;
+    let Err(refusal) = scp::validate(&input.bytes) else { return show(&input, out) };
+    writeln!(out, "{}: {}", input.name, reasons::of_image(&input.bytes, refusal))?;
+    match scp::header(&input.bytes) {
+        Ok(_) => {
+            writeln!(out, "The image opens, so that all of it can be read:\n")?;
+            show(&input, out)?;
+        }
+        Err(_) => {
+            writeln!(out, "UNCHECKED: the image does not open; what follows is what its bytes say:\n")?;
+            refused::show(&input, out)?;
+        }
+    }
+    Err(Failure::Said(Status::Refused))
+}
+
+/// Shows an image that opens.
+fn show(input: &Input, out: &mut dyn Write) -> Result<(), Failure> {
     let header = input.ask(scp::header)?;
     let footer = input.ask(scp::footer)?;
     let checksum = input.ask(Checksum::of)?;
@@ -71,12 +91,8 @@ fn run(arguments: &Arguments, out: &mut dyn Write) -> Result<(), Failure> {
         Some(footer) => say_footer(&input.bytes, &footer, out)?,
         None => field(out, "footer", "none")?,
     }
-    say_tracks(&input, &tracks, out)?;
-    say_revolutions(&input, &tracks, out)?;
-    if !checksum.sound {
-        writeln!(out, "\nDAMAGED: the image opens, but does not validate; checksum {checksum}")?;
-    }
-    Ok(())
+    say_tracks(input, &tracks, out)?;
+    say_revolutions(input, &tracks, out)
 }
 
 /// A line with a name and a value.
@@ -90,7 +106,8 @@ fn say_header(header: &Header, tracks: usize, out: &mut dyn Write) -> io::Result
     let heads = match header.heads {
         0 => "both",
         1 => "side 0 only (even tracks)",
-        _ => "side 1 only (odd tracks)",
+        2 => "side 1 only (odd tracks)",
+        _ => "not 0, 1 or 2",
     };
     field(out, "version", version(header.version))?;
     field(out, "disk type", format!("0x{:02X} ({disk})", header.disk))?;
@@ -100,7 +117,8 @@ fn say_header(header: &Header, tracks: usize, out: &mut dyn Write) -> io::Result
     for (bit, (name, clear, set)) in FLAGS.into_iter().enumerate() {
         field(out, &format!("  {name}"), if header.flags & (1 << bit) == 0 { clear } else { set })?;
     }
-    field(out, "word width", format!("{} (16 bits)", header.width))?;
+    let width = if matches!(header.width, 0 | 16) { "16 bits" } else { "neither 0 nor 16" };
+    field(out, "word width", format!("{} ({width})", header.width))?;
     field(out, "heads", format!("{} ({heads})", header.heads))
 }
 
@@ -137,8 +155,8 @@ fn rpm(speed: Option<f64>) -> String {
 fn say_tracks(input: &Input, tracks: &[u32], out: &mut dyn Write) -> Result<(), Failure> {
     writeln!(out, "\ntrack cylinder head     offset revolutions   slowest rpm   fastest rpm")?;
     for &track in tracks {
-        let found = input.ask(|image| scp::track(image, track))?;
-        let speeds = input.ask(|image| scp::track_speed(image, track))?;
+        let found = input.ask_of((track, 0), |image, track, _| scp::track(image, track))?;
+        let speeds = input.ask_of((track, 0), |image, track, _| scp::track_speed(image, track))?;
         let (slowest, fastest) = speeds.map(|speeds| (speeds.slowest, speeds.fastest)).unzip();
         let (cylinder, head, offset, revolutions) = (found.cylinder, found.head, found.offset, found.revolutions);
         let (slowest, fastest) = (rpm(slowest), rpm(fastest));
@@ -153,9 +171,11 @@ fn say_revolutions(input: &Input, tracks: &[u32], out: &mut dyn Write) -> Result
     writeln!(out, "\ntrack rev      ticks            ms     words intervals  open ticks           rpm")?;
     for &track in tracks {
         for revolution in 0..u32::from(revolutions) {
-            let found = input.ask(|image| scp::revolution(image, track, revolution))?;
-            let speed = rpm(input.ask(|image| scp::speed(image, track, revolution))?);
-            let (intervals, open) = count_intervals(input, (track, revolution))?;
+            let place = (track, revolution);
+            let found = input.ask_of(place, scp::revolution)?;
+            let speed = rpm(input.ask_of(place, scp::speed)?);
+            let (intervals, open) =
+                input.ask_of(place, |image, track, revolution| count_intervals(scp::flux(image, track, revolution)?))?;
             let (ticks, ms, words) = (found.duration, milliseconds(u64::from(found.duration)), found.words);
             writeln!(out, "{track:>5} {revolution:>3} {ticks:>10} {ms:>13} {words:>9} {intervals:>9} {open:>11} {speed:>13}")?;
         }

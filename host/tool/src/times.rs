@@ -44,7 +44,7 @@ pub fn words_of_times(file: &OsStr, most: u32) -> Result<Vec<u8>, Failure> {
         let refusal = Refusal { reason: Reason::Words, position: 0 };
         return Err(Failure::refused(format!("{}: {refusal} (the times need {need} words, the revolution has {most})", input.name)));
     }
-    let size = made.map_err(|refusal| input.refused(refusal))?;
+    let size = made.map_err(|refusal| input.failure(refusal))?;
     words.truncate(size + 2 * times.open_words.unwrap_or(0) as usize);
     Ok(words)
 }

@@ -3,12 +3,15 @@
 use std::ffi::OsStr;
 use std::io::Write;
 
+use scp::Refusal;
+
 use crate::arguments::{Arguments, Command};
 use crate::failure::{Failure, Status};
 use crate::files::Input;
+use crate::reasons;
 
 /// The command.
-pub const COMMAND: Command = Command { name: "validate", flags: &[], values: &[], help: include_str!("help/validate.txt"), run };
+pub const COMMAND: Command = Command { name: "validate", flags: &["--all"], values: &[], help: include_str!("help/validate.txt"), run };
 
 /// Validates each file, also after one that fails.
 fn run(arguments: &Arguments, out: &mut dyn Write) -> Result<(), Failure> {
@@ -20,20 +23,38 @@ fn run(arguments: &Arguments, out: &mut dyn Write) -> Result<(), Failure> {
     }
     let mut worst = Ok(());
     for file in &arguments.operands {
-        let (line, verdict) = verdict(file);
+        let (lines, verdict) = verdict(file, arguments.has("--all"));
         worst = worst.max(verdict);
-        writeln!(out, "{line}")?;
+        for line in lines {
+            writeln!(out, "{line}")?;
+        }
     }
     worst.map_err(Failure::Said)
 }
 
-/// The line of a file, and whether it passes.
-fn verdict(file: &OsStr) -> (String, Result<(), Status>) {
-    match Input::try_read(file) {
-        Err(message) => (message, Err(Status::File)),
-        Ok(input) => match scp::validate(&input.bytes) {
-            Ok(()) => (format!("{}: ok", input.name), Ok(())),
-            Err(refusal) => (format!("{}: {refusal}", input.name), Err(Status::Refused)),
-        },
+/// The line of a file, with all its faults one for each, and whether it passes.
+fn verdict(file: &OsStr, all: bool) -> (Vec<String>, Result<(), Status>) {
+    let input = match Input::try_read(file) {
+        Err(message) => return (vec![message], Err(Status::File)),
+        Ok(input) => input,
+    };
+    match scp::validate(&input.bytes) {
+        Ok(()) => (vec![format!("{}: ok", input.name)], Ok(())),
+        Err(refusal) => {
+            let mut lines = vec![format!("{}: {}", input.name, reasons::of_image(&input.bytes, refusal))];
+            if all {
+                lines.extend(others(&input, refusal));
+            }
+            (lines, Err(Status::Refused))
+        }
     }
+}
+
+/// A line for each fault but the one that is refused.
+fn others(input: &Input, refusal: Refusal) -> Vec<String> {
+    let mut faults = reasons::faults(&input.bytes);
+    if let Some(first) = faults.iter().position(|fault| fault.refusal == refusal) {
+        faults.remove(first);
+    }
+    faults.iter().map(|fault| format!("{}: also {fault}", input.name)).collect()
 }

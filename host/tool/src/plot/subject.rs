@@ -29,11 +29,12 @@ pub struct Subject {
 impl Subject {
     /// Asks the library for all that is drawn.
     pub fn of(input: &Input, (track, revolution): (u32, u32)) -> Result<Subject, Failure> {
-        let on = input.ask(|image| scp::track(image, track))?;
-        let found = input.ask(|image| scp::revolution(image, track, revolution))?;
-        let rpm = input.ask(|image| scp::speed(image, track, revolution))?;
+        let place = (track, revolution);
+        let on = input.ask_of(place, |image, track, _| scp::track(image, track))?;
+        let found = input.ask_of(place, scp::revolution)?;
+        let rpm = input.ask_of(place, scp::speed)?;
         let mut intervals = Vec::new();
-        let open = each_interval(input, (track, revolution), |ticks| {
+        let open = each_interval(input, place, |ticks| {
             intervals.push(ticks);
             Ok(())
         })?;

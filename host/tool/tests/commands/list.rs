@@ -63,6 +63,6 @@ fn a_file_above_the_greatest_size_is_refused_1() {
 #[test]
 fn files_that_cannot_be_read_have_the_system_s_message() {
     let bench = Bench::new();
-    bench.fails("list none.scp", 1, "none.scp: No such file");
-    bench.fails("list .", 1, ".: Is a directory");
+    bench.fails("list none.scp", 3, "none.scp: No such file");
+    bench.fails("list .", 3, ".: Is a directory");
 }

@@ -5,6 +5,7 @@ mod list;
 mod patch;
 mod plot;
 mod read;
+mod reasons;
 mod replay;
 mod show;
 mod usage;

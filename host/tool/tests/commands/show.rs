@@ -38,16 +38,21 @@ fn image_a_is_shown() {
     }
     assert_eq!(row(&out, &["0", "0", "0", "0x000002B0"]), ["0", "0", "0", "0x000002B0", "1", "300.000", "300.000"]);
     assert_eq!(row(&out, &["0", "0", "8000000"]), ["0", "0", "8000000", "200.000000", "4", "3", "0", "300.000"]);
-    assert!(!out.contains("DAMAGED"));
 }
 
 #[test]
 fn damage_is_said() {
     let bench = Bench::new();
     bench.put("d.scp", &damaged_a());
-    let out = bench.passes("show d.scp");
-    assert!(has(&out, "checksum", "stored 981, true sum 980: damaged"), "{out}");
-    assert!(out.contains("DAMAGED"), "{out}");
+    let run = bench.run("show d.scp");
+    let (first, rest) = run.out.split_once("\n\n").expect("the refusal, then the image");
+    assert_eq!(first, "d.scp: refused 12 Sum: stored 981, the bytes add up to 980\nThe image opens, so that all of it can be read:");
+    assert!(has(rest, "checksum", "stored 981, true sum 980: damaged"), "{rest}");
+    assert_eq!((run.status, run.err.as_str()), (1, ""));
+    assert_eq!(
+        rest.replace("981, true sum 980: damaged", "980, true sum 980: sound").replace("d.scp", "a.scp"),
+        bench.passes("show a.scp")
+    );
 }
 
 #[test]
@@ -64,7 +69,7 @@ fn a_read_write_image_stores_0() {
     assert_eq!(row(&out, &["11", "0", "0"])[3..], ["0.000000", "1", "0", "65536", "-"]);
     read_write[0x0C] = 1;
     bench.put("w.scp", &read_write);
-    assert!(bench.passes("show w.scp").contains("stored 1, on a read/write image 0 is due: damaged"));
+    assert!(bench.run("show w.scp").out.contains("stored 1, on a read/write image 0 is due: damaged"));
 }
 
 #[test]
@@ -88,10 +93,56 @@ fn the_footer_is_printed_safely() {
 }
 
 #[test]
-fn an_image_that_does_not_open_is_refused() {
+fn what_can_be_read_of_an_image_that_does_not_open_is_shown() {
     let bench = Bench::new();
-    let mut wrong = scp::example::image_a();
-    wrong[9] = 8;
+    let revolutions: &[(u32, &[u16])] = &[(8_000_000, &[160, 0, 1]), (7_000_000, &[5, 0])];
+    let tracks = image(0x01, &[(0, revolutions), (1, revolutions), (2, revolutions), (3, revolutions)]);
+    let mut wrong = with_footer(tracks, [b"Maker", b"", b"", b"", b"", b""], 1_512_432_000, -1);
+    let size = 4 + 12 * 2 + 10;
+    wrong[9] = 8; // the width
+    wrong[688 + size + 1] = b'X'; // track 1: no "TRK"
+    wrong[688 + 2 * size + 3] = 9; // track 2: another number
+    wrong[688 + 3 * size + 4 + 12 + 6] = 1; // track 3: 65,536 words more in revolution 1
     bench.put("w.scp", &wrong);
-    bench.fails("show w.scp", 1, "w.scp: refused 3 (Width) at 0: the word width is neither 0 nor 16");
+    let run = bench.run("show w.scp");
+    let (first, rest) = run.out.split_once("\n\n").expect("the refusal, then what can be read");
+    let said =
+        "w.scp: refused 3 Width: byte 0x09 is 8, not 0 or 16\nUNCHECKED: the image does not open; what follows is what its bytes say:";
+    assert_eq!((run.status, run.err.as_str(), first), (1, "", said));
+    for (name, value) in [
+        ("image", "w.scp"),
+        ("size", "896 bytes"),
+        ("revolutions", "2 for each track"),
+        ("tracks", "0 to 3, 4 present"),
+        ("word width", "8 (neither 0 nor 16)"),
+        ("maker", "\"Maker\" (at 0x00000348)"),
+        ("created", "2017-12-05 00:00:00 UTC (1512432000 s)"),
+        ("0        0    0 0x000002B0", "-"),
+        ("1        0    1 0x000002D6", "10 Track: track 1: the three bytes at 726 are 54 58 4B, not TRK"),
+        ("2        1    0 0x000002FC", "10 Track: track 2: its header at 764 is that of track 9"),
+        ("3        1    1 0x00000322", "11 Flux: track 3, revolution 1: 2 x 65,538 bytes at 836 end at 131,912, past 848"),
+    ] {
+        assert!(has(rest, name, value), "{name} {value}: {rest}");
+    }
+    for due in [["0", "0", "8000000", "200.000000", "3", "2", "0"], ["0", "1", "7000000", "175.000000", "2", "1", "65536"]] {
+        assert_eq!(row(rest, &due[..3]), due, "{rest}");
+    }
+    assert_eq!(row(rest, &["1", "0", "8000000"]), [""; 0], "{rest}");
+    assert_eq!(row(rest, &["2", "0", "8000000"])[3..], ["200.000000", "3", "2", "0"], "{rest}");
+    assert_eq!(row(rest, &["3", "1", "7000000"])[3..], ["175.000000", "65538", "-", "-"], "{rest}");
+}
+
+#[test]
+fn files_that_are_hardly_images_are_shown() {
+    let bench = Bench::new();
+    let mut footer_cut = scp::example::image_a();
+    footer_cut[8] = 0x21;
+    for (bytes, due) in [(&[][..], "header              not there"), (&[0; 15], "header              not there"), (&[0; 16], "none")] {
+        bench.put("s.scp", bytes);
+        let run = bench.run("show s.scp");
+        assert_eq!((run.status, run.err.as_str()), (1, ""));
+        assert!(run.out.contains(due) && run.out.contains(&format!("{} bytes", bytes.len())), "{}", run.out);
+    }
+    bench.put("s.scp", &footer_cut);
+    assert!(has(&bench.run("show s.scp").out, "footer", "flagged, but not there"));
 }

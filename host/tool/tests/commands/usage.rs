@@ -25,9 +25,18 @@ fn help_is_there_for_all() {
 }
 
 #[test]
-fn the_version_is_the_package_s() {
+fn the_version_names_the_judge() {
     let bench = Bench::new();
-    assert_eq!(bench.passes("--version"), format!("fluxproof {}\n", env!("CARGO_PKG_VERSION")));
+    let said = bench.passes("--version");
+    assert_eq!(bench.passes("-V"), said);
+    let lines: Vec<(&str, &str)> = said.lines().filter_map(|line| line.split_once(' ')).collect();
+    let names: Vec<&str> = lines.iter().map(|(name, _)| *name).collect();
+    assert_eq!(names, ["fluxproof", "commit", "toolchain", "logic"], "{said}");
+    assert_eq!(lines[0].1, env!("CARGO_PKG_VERSION"));
+    let digits = |text: &str, count: usize| text.len() == count && text.bytes().all(|digit| digit.is_ascii_hexdigit());
+    let commit = lines[1].1.strip_suffix(", with changes").unwrap_or(lines[1].1);
+    assert!(commit == "unknown" || digits(commit, 40), "{said}");
+    assert!(lines[3].1 == "unknown" || digits(lines[3].1, 16), "{said}");
 }
 
 #[test]

@@ -16,8 +16,8 @@ fn every_file_has_its_line() {
     bench.put("d.scp", &damaged_a());
     let run = bench.run("validate d.scp none.scp . a.scp");
     let lines: Vec<&str> = run.out.lines().collect();
-    assert_eq!((run.status, lines.len(), run.err.as_str()), (1, 4, ""), "{run:?}");
-    assert_eq!(lines[0], "d.scp: refused 12 (Sum) at 0: the stored checksum is not the one that the bytes have");
+    assert_eq!((run.status, lines.len(), run.err.as_str()), (3, 4, ""), "{run:?}");
+    assert_eq!(lines[0], "d.scp: refused 12 Sum: stored 981, the bytes add up to 980");
     assert!(lines[1].starts_with("none.scp: No such file"), "{}", lines[1]);
     assert!(lines[2].starts_with(".: Is a directory"), "{}", lines[2]);
     assert_eq!(lines[3], "a.scp: ok");

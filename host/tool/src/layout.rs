@@ -1,0 +1,113 @@
+//! What the bytes of an image say, accepted or not: for reasons, and for images that are refused.
+
+use scp::{Footer, Header, Revolution, LONGEST_IMAGE, TRACKS};
+
+/// Where the table of the tracks starts; the checksum adds the bytes from here on.
+const TABLE: usize = 0x10;
+
+/// Where the table ends: tracks, flux and strings start here or later.
+pub const TABLE_END: usize = TABLE + 4 * TRACKS as usize;
+
+/// How many bytes a footer has.
+const FOOTER_SIZE: usize = 48;
+
+/// How many bytes an image with a footer has at least.
+pub const LEAST_WITH_FOOTER: usize = TABLE_END + FOOTER_SIZE;
+
+/// The bit of FLAGS that announces a footer.
+const FOOTER_FLAG: u8 = 0x20;
+
+/// The bytes of any file, read as those of an image.
+#[derive(Clone, Copy)]
+pub struct Layout<'a>(pub &'a [u8]);
+
+impl<'a> Layout<'a> {
+    /// As many bytes from an offset on, where the file has them.
+    pub fn array<const N: usize>(self, offset: u64) -> Option<[u8; N]> {
+        self.part(offset, N as u64)?.try_into().ok()
+    }
+
+    /// The bytes from an offset on, where the file has so many.
+    pub fn part(self, offset: u64, size: u64) -> Option<&'a [u8]> {
+        let (start, end) = (usize::try_from(offset).ok()?, usize::try_from(offset.checked_add(size)?).ok()?);
+        self.0.get(start..end)
+    }
+
+    /// The 32-bit number at an offset.
+    fn number(self, offset: u64) -> Option<u32> {
+        self.array(offset).map(u32::from_le_bytes)
+    }
+
+    /// The first bytes of the file, if it has as many as there are before the table.
+    pub fn header(self) -> Option<Header> {
+        let [_, _, _, version, disk, revolutions, start, end, flags, width, heads, _, sum @ ..] = self.array::<TABLE>(0)?;
+        Some(Header { version, disk, revolutions, start, end, flags, width, heads, checksum: u32::from_le_bytes(sum) })
+    }
+
+    /// The sum of the bytes that the checksum adds.
+    pub fn sum(self) -> u32 {
+        let bytes = self.0.get(TABLE..).unwrap_or_default();
+        bytes.iter().fold(0, |sum, &byte| sum.wrapping_add(u32::from(byte)))
+    }
+
+    /// Whether FLAGS announces a footer.
+    pub fn has_footer(self) -> bool {
+        self.header().is_some_and(|header| header.flags & FOOTER_FLAG != 0)
+    }
+
+    /// Where tracks, flux and strings must have ended: before the footer where one is announced and has room.
+    pub fn end(self) -> u64 {
+        let size = self.0.len();
+        (if self.has_footer() && size >= LEAST_WITH_FOOTER { size - FOOTER_SIZE } else { size }) as u64
+    }
+
+    /// The last bytes of the file, if FLAGS announces a footer and it has room; and the four bytes that close it.
+    pub fn footer(self) -> Option<(Footer, [u8; 4])> {
+        if !self.has_footer() || self.0.len() < LEAST_WITH_FOOTER {
+            return None;
+        }
+        let start = self.end();
+        let mut strings = [0; 6];
+        for (string, offset) in strings.iter_mut().zip((start..).step_by(4)) {
+            *string = self.number(offset)?;
+        }
+        let (created, modified) = (self.array(start + 0x18)?, self.array(start + 0x20)?);
+        let (created, modified) = (i64::from_le_bytes(created), i64::from_le_bytes(modified));
+        Some((Footer { strings, created, modified, versions: self.array(start + 0x28)? }, self.array(start + 0x2C)?))
+    }
+
+    /// The tracks whose entry is not 0, each with its entry; none where the table is not whole.
+    pub fn entries(self) -> impl Iterator<Item = (u32, u64)> + 'a {
+        let table = self.0.get(TABLE..TABLE_END).unwrap_or_default().chunks_exact(4);
+        let entries = table.map(|entry| u64::from(u32::from_le_bytes([entry[0], entry[1], entry[2], entry[3]])));
+        (0..).zip(entries).filter(|&(_, entry)| entry != 0)
+    }
+
+    /// How many bytes each track data header has.
+    pub fn track_header_size(self) -> u64 {
+        4 + 12 * u64::from(self.header().map_or(0, |header| header.revolutions))
+    }
+
+    /// Whether a whole track data header is at an offset, of whatever track.
+    pub fn is_track_header(self, offset: u64) -> bool {
+        let size = self.track_header_size();
+        offset >= TABLE_END as u64 && offset + size <= self.end() && self.array(offset) == Some(*b"TRK")
+    }
+
+    /// Where the track data header at an offset has the record of a revolution.
+    pub fn record_offset(track_header: u64, revolution: u32) -> u64 {
+        track_header + 4 + 12 * u64::from(revolution)
+    }
+
+    /// A revolution as the track data header at an offset describes it.
+    pub fn revolution(self, track_header: u64, revolution: u32) -> Option<Revolution> {
+        let record = Layout::record_offset(track_header, revolution);
+        let (duration, words, distance) = (self.number(record)?, self.number(record + 4)?, self.number(record + 8)?);
+        Some(Revolution { duration, words, offset: track_header + u64::from(distance) })
+    }
+
+    /// Whether the file is longer than any image; then not all of it was read.
+    pub fn is_cut(self) -> bool {
+        self.0.len() > LONGEST_IMAGE
+    }
+}

@@ -1,0 +1,153 @@
+//! What a refusal is about: which of its cases it is, where, what was found and what was due.
+//!
+//! The verdict is always the library's. What is said here is looked up in the bytes once the library has refused, and only for that
+//! number and position; should nothing be found, the refusal's own text is said.
+
+mod claims;
+mod faults;
+
+use scp::{Reason, Refusal, ZERO_WORD_TICKS};
+
+use crate::layout::Layout;
+use crate::numbers::{counted, grouped};
+pub use faults::{faults, Fault};
+
+/// What was asked of a track, as far as a refusal may be about it.
+#[derive(Clone, Copy)]
+pub struct Asked {
+    /// The track.
+    pub track: u32,
+    /// The revolution.
+    pub revolution: u32,
+    /// How many bytes the new words of a rewrite have.
+    pub size: usize,
+}
+
+/// A refusal of an image as it is.
+pub fn of_image(image: &[u8], refusal: Refusal) -> String {
+    let fault = faults(image).into_iter().find(|fault| fault.refusal == refusal);
+    said(refusal, fault.map(|fault| fault.text))
+}
+
+/// A refusal of a question about a revolution, or of its rewrite.
+pub fn of_asked(image: &[u8], asked: Asked, refusal: Refusal) -> String {
+    let text = match refusal.reason {
+        Reason::Absent => absent(image, asked.track),
+        Reason::Revolution => revolutions(image, asked),
+        Reason::Words => words(image, asked),
+        Reason::Shared => claims::shared(image, asked.track, asked.revolution),
+        _ => return of_image(image, refusal),
+    };
+    said(refusal, text)
+}
+
+/// A refusal of a time.
+pub fn of_time(ticks: u64, refusal: Refusal) -> String {
+    let text = match ticks {
+        0 => "0 ticks".to_string(),
+        _ if ticks > u64::from(u32::MAX) => format!("{} ticks, above {}", grouped(ticks), grouped(u32::MAX.into())),
+        _ => format!("{} ticks, a multiple of {}, which no word closes", grouped(ticks), grouped(ZERO_WORD_TICKS)),
+    };
+    said(refusal, Some(text))
+}
+
+/// A refusal of more words than a revolution has.
+pub fn of_too_many_words(need: u128, most: u32) -> String {
+    said(Refusal { reason: Reason::Words, position: 0 }, Some(too_many(need, most)))
+}
+
+/// A refusal with its text, or with its own where there is none.
+fn said(refusal: Refusal, text: Option<String>) -> String {
+    match text {
+        Some(text) => format!("refused {}", Fault { refusal, text }),
+        None => refusal.to_string(),
+    }
+}
+
+/// Why a track is not there.
+fn absent(image: &[u8], track: u32) -> Option<String> {
+    if track >= scp::TRACKS {
+        return Some(format!("track {track} is above {}", scp::TRACKS - 1));
+    }
+    let present = Layout(image).entries().count() as u64;
+    Some(format!("track {track} has no entry in the table, which has {}", counted(present, "track")))
+}
+
+/// Why a revolution is not there.
+fn revolutions(image: &[u8], asked: Asked) -> Option<String> {
+    let most = u64::from(Layout(image).header()?.revolutions);
+    Some(format!("revolution {} of track {}: a track has {}, from 0 on", asked.revolution, asked.track, counted(most, "revolution")))
+}
+
+/// Why the new words of a revolution are not taken.
+fn words(image: &[u8], asked: Asked) -> Option<String> {
+    if asked.size % 2 == 1 {
+        return Some(format!("{} are no whole number of words", counted(asked.size as u64, "byte")));
+    }
+    let most = scp::revolution(image, asked.track, asked.revolution).ok()?.words;
+    Some(too_many(asked.size as u128 / 2, most))
+}
+
+/// More words than a revolution has.
+fn too_many(need: u128, most: u32) -> String {
+    let need = u64::try_from(need).map_or_else(|_| need.to_string(), |need| counted(need, "word"));
+    format!("{need}, where the revolution has {}", grouped(most.into()))
+}
+
+#[cfg(test)]
+mod tests {
+    use super::*;
+    use scp_compare::cases::case;
+    use scp_compare::question::Question;
+
+    /// How many cases of the comparison are looked at.
+    const CASES: u64 = 60_000;
+
+    #[test]
+    fn the_first_fault_is_what_the_library_refuses() {
+        let mut met = [0; 13];
+        for number in 0..CASES {
+            let bytes = case(7, number).bytes;
+            let verdict = scp::validate(&bytes).err();
+            let faults = faults(&bytes);
+            assert_eq!(faults.first().map(|fault| fault.refusal), verdict, "case {number}: {faults:?}");
+            met[verdict.map_or(0, |refusal| usize::from(refusal.reason.number()))] += 1;
+        }
+        assert!(met.iter().all(|&met| met > 0), "a number never came up: {met:?}");
+    }
+
+    #[test]
+    fn the_reason_of_a_refused_rewrite_is_there_just_when_it_is_refused() {
+        let mut met = [0; 19];
+        for number in 0..CASES {
+            let case = case(8, number);
+            for question in &case.questions {
+                let Question::Rewrite { track, revolution, duration, words } = question else { continue };
+                let asked = Asked { track: *track, revolution: *revolution, size: words.len() };
+                let done = scp::rewrite(&mut case.bytes.clone(), *track, *revolution, *duration, words);
+                let shared = claims::shared(&case.bytes, *track, *revolution);
+                match done {
+                    Ok(()) => assert_eq!(shared, None, "case {number}"),
+                    Err(refusal) => {
+                        let said = of_asked(&case.bytes, asked, refusal);
+                        let start = format!("refused {} {:?}: ", refusal.reason.number(), refusal.reason);
+                        assert!(said.starts_with(&start), "case {number}: {said}");
+                        met[usize::from(refusal.reason.number())] += 1;
+                    }
+                }
+            }
+        }
+        for number in [13, 14, 17, 18] {
+            assert!(met[number] > 0, "{number} never came up: {met:?}");
+        }
+    }
+
+    #[test]
+    fn the_reason_of_a_time_is_there_just_when_it_is_refused() {
+        for ticks in [0, 1, 65_535, 65_536, 65_537, 131_072, 4_294_901_760, 4_294_967_295, 4_294_967_296, u64::MAX] {
+            let refused = scp::words(&[ticks], &mut vec![0; 1 << 18]).err();
+            let due = ticks == 0 || ticks.is_multiple_of(ZERO_WORD_TICKS) || ticks > u64::from(u32::MAX);
+            assert_eq!(refused.map(|refusal| refusal.reason), due.then_some(Reason::Time), "{ticks}");
+        }
+    }
+}

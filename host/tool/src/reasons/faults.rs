@@ -1,0 +1,227 @@
+//! The faults of an image, in the order of the rules: the first one is what the library refuses.
+
+use std::fmt;
+
+use scp::{Footer, Header, Reason, Refusal, LONGEST_IMAGE, STRING_NAMES, TRACKS};
+
+use crate::layout::{Layout, LEAST_WITH_FOOTER, TABLE_END};
+use crate::numbers::grouped;
+
+/// The most revolutions of a track.
+const MOST_REVOLUTIONS: u8 = 5;
+
+/// The format version of the oldest footer.
+const FOOTER_FORMAT: u8 = 0x16;
+
+/// A fault of an image: the refusal that it is, and what was found and due.
+#[derive(Debug)]
+pub struct Fault {
+    /// The refusal.
+    pub refusal: Refusal,
+    /// What was found, where, and what was due.
+    pub text: String,
+}
+
+impl fmt::Display for Fault {
+    fn fmt(&self, f: &mut fmt::Formatter<'_>) -> fmt::Result {
+        write!(f, "{} {:?}: {}", self.refusal.reason.number(), self.refusal.reason, self.text)
+    }
+}
+
+/// All faults that can be told apart; none for an image that the library accepts.
+pub fn faults(image: &[u8]) -> Vec<Fault> {
+    let mut search = Search { layout: Layout(image), found: Vec::new() };
+    search.size();
+    if let Some(header) = search.layout.header() {
+        search.header(&header);
+        if !search.layout.is_cut() {
+            search.footer(&header);
+            search.tracks(&header);
+            search.sum(&header);
+        }
+    }
+    search.found
+}
+
+/// A search for faults.
+struct Search<'a> {
+    layout: Layout<'a>,
+    found: Vec<Fault>,
+}
+
+impl Search<'_> {
+    /// Notes a fault at a string or a track.
+    fn note_at(&mut self, reason: Reason, position: u32, text: String) {
+        self.found.push(Fault { refusal: Refusal { reason, position: position.into() }, text });
+    }
+
+    /// Notes a fault of the image as a whole.
+    fn note(&mut self, reason: Reason, text: String) {
+        self.note_at(reason, 0, text);
+    }
+
+    /// The length.
+    fn size(&mut self) {
+        let size = self.layout.0.len();
+        if size < TABLE_END {
+            self.note(Reason::Size, format!("{size} bytes, fewer than {TABLE_END}"));
+        } else if self.layout.is_cut() {
+            self.note(Reason::Size, format!("more than {} bytes", grouped(LONGEST_IMAGE as u64)));
+        }
+    }
+
+    /// The fields of the header.
+    fn header(&mut self, header: &Header) {
+        let Header { revolutions, start, end, width, heads, .. } = *header;
+        let sign = self.layout.array::<3>(0).unwrap_or_default();
+        if sign != *b"SCP" {
+            self.note(Reason::Sign, format!("the first three bytes are {}, not SCP", hexadecimal(&sign)));
+        }
+        if width != 0 && width != 16 {
+            self.note(Reason::Width, format!("byte 0x09 is {width}, not 0 or 16"));
+        }
+        if !(1..=MOST_REVOLUTIONS).contains(&revolutions) {
+            self.note(Reason::Revolutions, format!("byte 0x05 is {revolutions}, not 1 to {MOST_REVOLUTIONS}"));
+        } else if header.is_read_write() && revolutions != 1 {
+            self.note(Reason::Revolutions, format!("byte 0x05 is {revolutions}, but a read/write image (FLAGS bit 4) has 1"));
+        }
+        if start > end {
+            self.note(Reason::Span, format!("the start track {start} is above the end track {end}"));
+        }
+        if u32::from(end) >= TRACKS {
+            self.note(Reason::Span, format!("the end track {end} is above {}", TRACKS - 1));
+        }
+        if heads > 2 {
+            self.note(Reason::Heads, format!("byte 0x0A is {heads}, not 0, 1 or 2"));
+        }
+    }
+
+    /// The footer, and its strings where it is one.
+    fn footer(&mut self, header: &Header) {
+        let size = self.layout.0.len();
+        let Some((footer, sign)) = self.layout.footer() else {
+            if self.layout.has_footer() {
+                let text = format!("FLAGS 0x{:02X} announces one, but {size} bytes are fewer than {LEAST_WITH_FOOTER}", header.flags);
+                self.note(Reason::Footer, text);
+            }
+            return;
+        };
+        let Footer { strings, versions: [.., format], .. } = footer;
+        if sign != *b"FPCS" {
+            self.note(Reason::Footer, format!("the last four bytes are {}, not FPCS", hexadecimal(&sign)));
+        }
+        if format < FOOTER_FORMAT {
+            self.note(Reason::Footer, format!("the format version 0x{format:02X} is below 0x{FOOTER_FORMAT:02X}"));
+        }
+        if sign == *b"FPCS" {
+            for (number, (name, offset)) in (0..).zip(STRING_NAMES.into_iter().zip(strings)) {
+                if let Some(text) = self.string(offset.into()) {
+                    self.note_at(Reason::String, number, format!("{name}: {text}"));
+                }
+            }
+        }
+    }
+
+    /// What is wrong with the string at an offset, if anything is.
+    fn string(&self, offset: u64) -> Option<String> {
+        let (start, end) = (TABLE_END as u64, self.layout.end());
+        if offset == 0 {
+            return None;
+        }
+        if offset < start {
+            return Some(format!("its offset {offset} is below {start}"));
+        }
+        if offset + 2 > end {
+            return Some(format!("its length at {} ends past {}", grouped(offset), grouped(end)));
+        }
+        let size = u64::from(u16::from_le_bytes(self.layout.array(offset)?));
+        let past = offset + 2 + size + 1;
+        if past > end {
+            let (size, offset) = (grouped(size), grouped(offset));
+            return Some(format!("2 + {size} + 1 bytes at {offset} end at {}, past {}", grouped(past), grouped(end)));
+        }
+        let (text, last) = (self.layout.part(offset + 2, size)?, self.layout.array::<1>(past - 1)?);
+        match text.iter().position(|&byte| byte == 0) {
+            Some(zero) => Some(format!("byte {} of its {} at {} is 0", grouped(zero as u64), grouped(size), grouped(offset))),
+            None if last == [0] => None,
+            None => Some(format!("the byte {} at {} after it is not 0", hexadecimal(&last), grouped(past - 1))),
+        }
+    }
+
+    /// The tracks, in order.
+    fn tracks(&mut self, header: &Header) {
+        for (track, entry) in self.layout.entries() {
+            self.slot(header, track);
+            if self.track_header(track, entry) {
+                self.flux(header, track, entry);
+            }
+        }
+    }
+
+    /// Whether a track may be there; a span or side that is refused itself says nothing of it.
+    fn slot(&mut self, header: &Header, track: u32) {
+        let (start, end) = (u32::from(header.start), u32::from(header.end));
+        if start <= end && end < TRACKS && !(start..=end).contains(&track) {
+            self.note_at(Reason::Slot, track, format!("track {track} has an entry, but the tracks are {start} to {end}"));
+        }
+        let (side, held) = (track % 2, u32::from(header.heads.wrapping_sub(1)));
+        if held < 2 && side != held {
+            self.note_at(Reason::Slot, track, format!("track {track} has an entry, but only side {held} is held (heads {})", held + 1));
+        }
+    }
+
+    /// The track data header; whether there is one, so that its records can be read.
+    fn track_header(&mut self, track: u32, entry: u64) -> bool {
+        let (start, end, size) = (TABLE_END as u64, self.layout.end(), self.layout.track_header_size());
+        if entry < start {
+            self.note_at(Reason::Track, track, format!("track {track}: its header at {entry} is below {start}"));
+            return false;
+        }
+        let Some([sign @ .., number]) = self.layout.array::<4>(entry).filter(|_| entry + size <= end) else {
+            let (at, past, end) = (grouped(entry), grouped(entry + size), grouped(end));
+            self.note_at(Reason::Track, track, format!("track {track}: its header of {size} bytes at {at} ends at {past}, past {end}"));
+            return false;
+        };
+        if sign != *b"TRK" {
+            let (at, found) = (grouped(entry), hexadecimal(&sign));
+            self.note_at(Reason::Track, track, format!("track {track}: the three bytes at {at} are {found}, not TRK"));
+            return false;
+        }
+        if u32::from(number) != track {
+            self.note_at(Reason::Track, track, format!("track {track}: its header at {} is that of track {number}", grouped(entry)));
+        }
+        true
+    }
+
+    /// The flux of each revolution of a track.
+    fn flux(&mut self, header: &Header, track: u32, entry: u64) {
+        let end = self.layout.end();
+        for revolution in 0..u32::from(header.revolutions) {
+            let Some(found) = self.layout.revolution(entry, revolution) else { return };
+            let past = found.offset + 2 * u64::from(found.words);
+            if past > end {
+                let (words, at) = (grouped(found.words.into()), grouped(found.offset));
+                let text = format!("2 x {words} bytes at {at} end at {}, past {}", grouped(past), grouped(end));
+                self.note_at(Reason::Flux, track, format!("track {track}, revolution {revolution}: {text}"));
+            }
+        }
+    }
+
+    /// The checksum.
+    fn sum(&mut self, header: &Header) {
+        let (stored, sum) = (header.checksum, self.layout.sum());
+        if header.is_read_write() {
+            if stored != 0 {
+                self.note(Reason::Sum, format!("stored {}, but a read/write image (FLAGS bit 4) stores 0", grouped(stored.into())));
+            }
+        } else if stored != sum {
+            self.note(Reason::Sum, format!("stored {}, the bytes add up to {}", grouped(stored.into()), grouped(sum.into())));
+        }
+    }
+}
+
+/// Bytes as pairs of hexadecimal digits.
+fn hexadecimal(bytes: &[u8]) -> String {
+    let pairs: Vec<String> = bytes.iter().map(|byte| format!("{byte:02X}")).collect();
+    pairs.join(" ")
+}
