@@ -25,14 +25,15 @@ fn run(arguments: &Arguments, out: &mut dyn Write) -> Result<(), Failure> {
         }
     }
     let mut input = Input::read_file(file)?;
+    let text = Input::read_all(calls)?;
     let destination = match target {
-        Some(target) => Some(Destination::new(target, &input, arguments, Kind::Image)?),
+        Some(target) => Some(Destination::new(target, &[&input, &text], arguments, Kind::Image)?),
         None => None,
     };
     if destination.is_some() {
         input = input.uncut()?;
     }
-    let (lines, calls) = read_calls(&Input::read_all(calls)?)?;
+    let (lines, calls) = read_calls(&text)?;
     let before = Checksum::of(&input.bytes);
     let answers = scp::replay(&mut input.bytes, &calls);
     for ((line, call), answer) in lines.iter().zip(&calls).zip(answers) {
@@ -40,7 +41,7 @@ fn run(arguments: &Arguments, out: &mut dyn Write) -> Result<(), Failure> {
         writeln!(out, "{line}: {}: {answer}", say_call(call))?;
     }
     if let (Some(destination), Some(target)) = (destination, target) {
-        destination.write(&input.bytes)?;
+        destination.stage(&input.bytes)?.commit()?;
         writeln!(out, "written to {}", shown(target))?;
         if let (Ok(before), Ok(after)) = (before, Checksum::of(&input.bytes)) {
             say_change(out, &before, &after)?;
