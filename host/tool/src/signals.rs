@@ -113,3 +113,47 @@ fn end_by(number: c_int) {
         raise(number);
     }
 }
+
+#[cfg(test)]
+mod tests {
+    use std::fs;
+    use std::os::unix::process::ExitStatusExt;
+    use std::path::PathBuf;
+    use std::process::Command;
+
+    use super::*;
+
+    /// The variable that names a file, and makes the test the process that the signal ends.
+    const FILE: &str = "FLUXPROOF_TEST_FILE";
+
+    /// The path of a test's file, with something after its name.
+    fn beside(file: &Path, end: &str) -> PathBuf {
+        file.with_extension(end)
+    }
+
+    /// Makes and registers a file in a step that a signal comes in before.
+    fn end_in_a_step(file: &Path) {
+        let registered = step(|| {
+            // SAFETY: it takes a number alone.
+            step(|| unsafe { raise(SIGNALS[2]) });
+            fs::write(beside(file, "noted"), "").and_then(|()| fs::write(file, "")).expect("files written");
+            Registered::new(file)
+        });
+        fs::write(beside(file, "after"), "").expect("a file written");
+        drop(registered);
+    }
+
+    #[test]
+    fn a_signal_in_a_step_acts_at_its_end() {
+        if let Some(file) = std::env::var_os(FILE) {
+            return end_in_a_step(Path::new(&file));
+        }
+        let file = std::env::temp_dir().join(format!("fluxproof-signal-{}.tmp", std::process::id()));
+        let mut command = Command::new(std::env::current_exe().expect("the test's path"));
+        command.args(["--exact", "signals::tests::a_signal_in_a_step_acts_at_its_end"]).env(FILE, &file);
+        let done = command.output().expect("the test runs");
+        assert_eq!(done.status.signal(), Some(SIGNALS[2]), "{done:?}");
+        fs::remove_file(beside(&file, "noted")).expect("the step goes on after the signal");
+        assert!(!beside(&file, "after").exists() && !file.exists());
+    }
+}

@@ -1,11 +1,16 @@
 //! Runs the command `fluxproof` in temporary folders, as a user does.
 
 mod bench;
+mod destinations;
 mod list;
 mod patch;
 mod plot;
 mod read;
 mod replay;
 mod show;
+#[cfg(target_os = "linux")]
+mod signals;
+mod streams;
+mod undo;
 mod usage;
 mod validate;

@@ -61,8 +61,8 @@ fn the_image_after_the_calls_is_written() {
     let out = bench.passes("replay a.scp calls.txt --out b.scp");
     assert_eq!(out, "1: rewrite 0 0 8000000 (8 bytes): ok\nwritten to b.scp\nchecksum 980 -> 885\n");
     assert_eq!(scp::header(&bench.get("b.scp")).map(|header| header.checksum), Ok(885));
-    bench.fails("replay a.scp calls.txt --out b.scp", 1, "exists already");
-    bench.fails("replay a.scp calls.txt --out a.scp --force", 1, "this is the image itself");
+    bench.fails("replay a.scp calls.txt --out b.scp", 3, "exists already");
+    bench.fails("replay a.scp calls.txt --out a.scp --force", 3, "this is the image itself");
     bench.fails("replay a.scp calls.txt --force", 2, "--force is for --out");
     bench.put("d.scp", &damaged_a());
     let out = bench.passes("replay d.scp calls.txt --out b.scp --force");
@@ -90,8 +90,8 @@ fn an_image_that_is_too_long_is_not_written_cut() {
     file.set_len(268_435_458).expect("a sparse file");
     bench.put("calls.txt", b"validate");
     assert!(bench.passes("replay long.scp calls.txt").starts_with("1: validate: refused 1 (Size) at 0"));
-    bench.fails("replay long.scp calls.txt --out b.scp", 1, "long.scp: longer than 268,435,456 bytes");
-    bench.fails("replay long.scp calls.txt --out long.scp --in-place", 1, "long.scp: longer than 268,435,456 bytes");
+    bench.fails("replay long.scp calls.txt --out b.scp", 3, "long.scp: longer than 268,435,456 bytes");
+    bench.fails("replay long.scp calls.txt --out long.scp --in-place", 3, "long.scp: longer than 268,435,456 bytes");
     assert_eq!((bench.names().len(), file.metadata().map(|found| found.len()).ok()), (3, Some(268_435_458)));
 }
 
@@ -124,9 +124,9 @@ fn a_line_that_cannot_be_read_stops_everything() {
         ("speed 0 one", "\"one\" is not a number"),
     ] {
         bench.put("calls.txt", format!("validate\nrewrite 0 0 0 -\n{line}\n").as_bytes());
-        bench.fails("replay a.scp calls.txt --out b.scp", 1, &format!("calls.txt: line 3: {message}"));
+        bench.fails("replay a.scp calls.txt --out b.scp", 2, &format!("calls.txt: line 3: {message}"));
     }
     assert_eq!(bench.names(), ["a.scp", "calls.txt"]);
-    bench.fails("replay a.scp none.txt", 1, "none.txt: No such file");
+    bench.fails("replay a.scp none.txt", 3, "none.txt: No such file");
     bench.fails("replay - calls.txt", 2, "standard input");
 }
