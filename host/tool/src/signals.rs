@@ -32,8 +32,11 @@ static WAITING: AtomicU32 = AtomicU32::new(0);
 static CAUGHT: Once = Once::new();
 
 extern "C" {
+    /// Sets the action of a signal, and gives the former one.
     fn signal(number: c_int, action: usize) -> usize;
+    /// Sends a signal to the caller.
     fn raise(number: c_int) -> c_int;
+    /// Removes a name of a file.
     fn unlink(path: *const c_char) -> c_int;
 }
 
@@ -63,6 +66,7 @@ impl Registered {
 }
 
 impl Drop for Registered {
+    /// Frees the place.
     fn drop(&mut self) {
         if let Some(place) = self.0 {
             place.store(null_mut(), SeqCst);
@@ -126,12 +130,12 @@ mod tests {
     /// The variable that names a file, and makes the test the process that the signal ends.
     const FILE: &str = "FLUXPROOF_TEST_FILE";
 
-    /// The path of a test's file, with something after its name.
+    /// The path of a file beside the test's own.
     fn beside(file: &Path, end: &str) -> PathBuf {
         file.with_extension(end)
     }
 
-    /// Makes and registers a file in a step that a signal comes in before.
+    /// A step in which a signal comes before the file is made and registered.
     fn end_in_a_step(file: &Path) {
         let registered = step(|| {
             // SAFETY: it takes a number alone.

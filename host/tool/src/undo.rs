@@ -35,13 +35,11 @@ impl Change {
         if self.is_shorter() {
             text += &format!("# {}; its former words are kept here, but replay refuses to put them back\n", Change::SHORTER);
         }
-        text += &format!("rewrite {track} {revolution} {} ", duration.0);
-        text += if former.is_empty() { "-" } else { "" };
-        for (index, word) in former.chunks_exact(2).enumerate() {
-            let space = if index == 0 { "" } else { " " };
-            let _ = write!(text, "{space}{:02X}{:02X}", word[0], word[1]);
+        text += &format!("rewrite {track} {revolution} {}", duration.0);
+        for word in former.chunks_exact(2) {
+            let _ = write!(text, " {:02X}{:02X}", word[0], word[1]);
         }
-        text.push('\n');
+        text += if former.is_empty() { " -\n" } else { "\n" };
         if text.len() as u64 > GREATEST {
             return Err(Failure::file("the undo file would be longer than the 268,435,456 bytes that replay reads"));
         }

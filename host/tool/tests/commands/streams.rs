@@ -70,12 +70,12 @@ fn a_wrong_command_line_gives_2() {
     let bench = bench();
     let names = bench.names();
     for line in lines("a.scp") {
-        for end in ["--frobnicate", "--help=1", "--", ""] {
-            let first = if end.is_empty() { line.split(' ').next().unwrap_or_default() } else { &line };
-            let extra = if end == "--" { "-- one two three four five" } else { end };
-            if !(line.starts_with("validate") && end == "--") {
-                bench.fails(&format!("{first} {extra}"), 2, "; see \"fluxproof help ");
-            }
+        let name = line.split(' ').next().unwrap_or_default();
+        let hint = format!("; see \"fluxproof help {name}\"");
+        bench.fails(name, 2, &format!("{name}: FILE is missing{hint}"));
+        bench.fails(&format!("{line} --frobnicate"), 2, &format!("unknown option \"--frobnicate\"{hint}"));
+        if name != "validate" {
+            bench.fails(&format!("{line} one two"), 2, &format!("{name}: unexpected argument \"one\" after "));
         }
     }
     assert_eq!(bench.names(), names);
