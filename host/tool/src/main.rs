@@ -42,8 +42,9 @@ fn main() -> ExitCode {
     let mut out = failure::standard_output();
     let ended = run(words, &mut out);
     let flushed = out.flush().map_err(Failure::from);
+    // What standard output says of a failure is not said where it cannot be written.
     let ended = match ended {
-        Err(Failure::Told(status, message)) => Err(Failure::Told(status, message)),
+        Err(told @ Failure::Told(..)) => Err(told),
         said => flushed.and(said),
     };
     match ended {
