@@ -1,13 +1,14 @@
 //! Results, written so that they are there whole or not at all.
 
 use std::ffi::OsStr;
-use std::fs::{self, File, OpenOptions, Permissions};
+use std::fs::{self, File, Metadata, OpenOptions, Permissions};
 use std::io::{self, Write};
 use std::path::{Path, PathBuf};
 
 use crate::arguments::Arguments;
 use crate::failure::Failure;
 use crate::files::{identity, shown, Identity, Input};
+use crate::signals::{self, Registered};
 
 /// How many names are tried for a temporary file.
 const ATTEMPTS: u32 = 1000;
@@ -15,80 +16,206 @@ const ATTEMPTS: u32 = 1000;
 /// What is written.
 #[derive(Clone, Copy, PartialEq, Eq)]
 pub enum Kind {
-    /// A new state of the input, with its permissions.
+    /// A new state of the image, with its permissions.
     Image,
-    /// Something else, which never takes the input's place.
+    /// Something else, which never takes the image's place.
     Drawing,
 }
 
 /// Where a result is to be written.
 pub struct Destination {
+    /// Its name, to be shown.
+    name: String,
+    /// Its path, once links are followed.
     path: PathBuf,
-    replace: bool,
+    /// The file that it replaces.
+    old: Option<Metadata>,
+    /// The permissions that it gets, if not those of any new file.
     permissions: Option<Permissions>,
 }
 
 impl Destination {
-    /// The input itself is taken only with `--in-place`, another file that exists only with `--force`.
-    pub fn new(out: &OsStr, input: &Input, arguments: &Arguments, kind: Kind) -> Result<Destination, Failure> {
-        let refuse = |message: &str| Failure::file(format!("{}: {message}", shown(out)));
-        let (path, found) = look(out).map_err(refuse)?;
-        let (source, permissions) = input.origin.clone().unzip();
-        let same = found.is_some() && found == source;
+    /// The image, which is the first input, is replaced only with `--in-place`, another input never, another file only with `--force`.
+    pub fn new(out: &OsStr, inputs: &[&Input], arguments: &Arguments, kind: Kind) -> Result<Destination, Failure> {
         let (in_place, force) = (arguments.has("--in-place"), arguments.has("--force"));
-        match (same, in_place) {
-            (true, false) if kind == Kind::Drawing => Err(refuse("this is the image itself")),
-            (true, false) => Err(refuse("this is the image itself; --in-place replaces it")),
-            (false, true) => Err(refuse("--in-place is given, but this is not the image")),
-            (false, false) if found.is_some() && !force => Err(refuse("it exists already; --force replaces it")),
-            _ => Ok(Destination { path, replace: same || force, permissions: permissions.filter(|_| kind == Kind::Image) }),
+        if in_place && force {
+            return Err(Failure::usage("--in-place and --force exclude each other"));
+        }
+        let found = Found::at(out)?;
+        let refuse = |message: &str| Err(Failure::file(format!("{}: {message}", shown(out))));
+        let read = inputs.iter().position(|input| found.is(input));
+        match (read, kind) {
+            (Some(0), _) if in_place => {}
+            _ if in_place => return refuse("--in-place is given, but this is not the image"),
+            (Some(0), Kind::Image) => return refuse("this is the image itself; --in-place replaces it"),
+            (Some(0), Kind::Drawing) => return refuse("this is the image itself"),
+            (Some(_), _) => return refuse("the command reads this file, so it is not replaced"),
+            (None, _) if found.file.is_some() && !force => return refuse("it exists already; --force replaces it"),
+            (None, _) => {}
+        }
+        let image = inputs.first().filter(|_| kind == Kind::Image);
+        found.destination(out, image.and_then(|image| image.permissions()))
+    }
+
+    /// A file that must not be there yet, beside this one; it has the permissions of the image.
+    pub fn fresh(&self, out: &OsStr, image: &Input) -> Result<Destination, Failure> {
+        let found = Found::at(out)?;
+        if place(&found.path) == place(&self.path) {
+            return Err(Failure::usage(format!("{} and {} are the same file", shown(out), self.name)));
+        }
+        if found.file.is_some() {
+            return Err(Failure::file(format!("{}: it exists already, and is never replaced", shown(out))));
+        }
+        found.destination(out, image.permissions())
+    }
+
+    /// Writes the bytes to a temporary file in the folder, and to the disk.
+    pub fn stage(self, bytes: &[u8]) -> Result<Staged, Failure> {
+        match self.try_stage(bytes) {
+            Ok(temporary) => Ok(Staged { destination: self, temporary }),
+            Err(error) => Err(self.unwritten(error)),
         }
     }
 
-    /// Writes the bytes to a temporary file beside the destination, which then takes its name.
-    pub fn write(&self, bytes: &[u8]) -> Result<(), Failure> {
-        self.try_write(bytes).map_err(|error| Failure::file(format!("{}: cannot be written: {error}", shown(&self.path))))
-    }
-
-    /// The same, with the system's error.
-    fn try_write(&self, bytes: &[u8]) -> io::Result<()> {
-        let folder = match self.path.parent() {
-            Some(folder) if folder != Path::new("") => folder,
-            _ => Path::new("."),
-        };
-        let (temporary, mut file) = Temporary::create(folder, self.permissions.is_some())?;
+    /// The temporary file, or the system's error.
+    fn try_stage(&self, bytes: &[u8]) -> io::Result<Temporary> {
+        let (temporary, mut file) = Temporary::create(folder(&self.path), self.permissions.is_some())?;
+        if let Some(old) = &self.old {
+            keep_owner(&file, old)?;
+        }
         file.write_all(bytes)?;
         if let Some(permissions) = &self.permissions {
             file.set_permissions(permissions.clone())?;
         }
         file.sync_all()?;
-        drop(file);
-        temporary.rename(&self.path, self.replace)?;
+        Ok(temporary)
+    }
+
+    /// The failure to write it.
+    fn unwritten(&self, error: io::Error) -> Failure {
+        Failure::file(format!("{}: cannot be written: {error}", self.name))
+    }
+}
+
+/// What is found under the name of a destination.
+struct Found {
+    /// The path, once links are followed.
+    path: PathBuf,
+    /// The regular file that is there.
+    file: Option<(Metadata, Identity)>,
+}
+
+impl Found {
+    /// Looks at a name.
+    fn at(out: &OsStr) -> Result<Found, Failure> {
+        let path = PathBuf::from(out);
+        let refuse = |message: &str| Err(Failure::file(format!("{}: {message}", shown(out))));
+        if out == "-" || path.file_name().is_none() {
+            return Err(Failure::usage(format!("\"{}\" names no file to write (one named - is ./-)", shown(out))));
+        }
+        let real = fs::canonicalize(&path).and_then(|real| Ok((fs::metadata(&real)?, real)));
+        match real {
+            Ok((file, real)) if file.is_file() => match identity(&real, &file) {
+                Ok(identity) => Ok(Found { path: real, file: Some((file, identity)) }),
+                Err(error) => refuse(&error.to_string()),
+            },
+            Ok(_) => refuse("this is not a regular file"),
+            Err(_) if fs::symlink_metadata(&path).is_ok() => refuse("this is a link that leads to no file"),
+            Err(_) => Ok(Found { path, file: None }),
+        }
+    }
+
+    /// Whether this is the file that an input was read from.
+    fn is(&self, input: &Input) -> bool {
+        match (&self.file, &input.origin) {
+            (Some((_, found)), Some((read, _))) => found == read,
+            _ => false,
+        }
+    }
+
+    /// The destination here: a file that is replaced must be one that may be written, and keeps its permissions.
+    fn destination(self, out: &OsStr, permissions: Option<Permissions>) -> Result<Destination, Failure> {
+        let (name, path, old) = (shown(out), self.path, self.file.map(|(file, _)| file));
+        let permissions = match &old {
+            None => permissions,
+            Some(old) if old.permissions().readonly() => {
+                return Err(Failure::file(format!("{name}: it is write-protected, so it is not replaced")));
+            }
+            Some(old) => match OpenOptions::new().write(true).open(&path) {
+                Ok(_) => Some(old.permissions()),
+                Err(error) => return Err(Failure::file(format!("{name}: it may not be written, so it is not replaced: {error}"))),
+            },
+        };
+        Ok(Destination { name, path, old, permissions })
+    }
+}
+
+/// A result that is whole and on the disk, but for its name.
+pub struct Staged {
+    destination: Destination,
+    temporary: Temporary,
+}
+
+impl Staged {
+    /// Gives the result its name.
+    pub fn commit(self) -> Result<(), Failure> {
+        let Staged { destination, temporary } = self;
+        let renamed = temporary.rename(&destination.path, destination.old.is_some());
+        renamed.map_err(|error| destination.unwritten(error))?;
         // The file is whole under its name; not every system can sync a folder.
-        let _ = File::open(folder).and_then(|folder| folder.sync_all());
+        let _ = File::open(folder(&destination.path)).and_then(|folder| folder.sync_all());
         Ok(())
     }
-}
 
-/// The regular file that a name stands for once links are followed, and its identity if it is there.
-fn look(out: &OsStr) -> Result<(PathBuf, Option<Identity>), &'static str> {
-    let path = PathBuf::from(out);
-    if out == "-" || path.file_name().is_none() {
-        return Err("this names no file to write (one named - is ./-)");
-    }
-    let real = fs::canonicalize(&path).and_then(|real| Ok((fs::metadata(&real)?, real)));
-    match real {
-        Ok((found, real)) if found.is_file() => Ok((real.clone(), identity(&real, &found).ok())),
-        Ok(_) => Err("this is not a regular file"),
-        Err(_) if fs::symlink_metadata(&path).is_ok() => Err("this is a link that leads to no file"),
-        Err(_) => Ok((path, None)),
+    /// Gives a new file its name and then this result; where that fails the new file is removed again.
+    pub fn commit_after(self, fresh: Staged) -> Result<(), Failure> {
+        let path = fresh.destination.path.clone();
+        signals::step(|| {
+            fresh.commit()?;
+            self.commit().inspect_err(|_| {
+                let _ = fs::remove_file(path);
+            })
+        })
     }
 }
 
-/// A temporary file, removed unless it took its name.
+/// The folder of a path.
+fn folder(path: &Path) -> &Path {
+    match path.parent() {
+        Some(folder) if folder != Path::new("") => folder,
+        _ => Path::new("."),
+    }
+}
+
+/// The folder of a path, once links are followed, and its name there.
+fn place(path: &Path) -> (PathBuf, Option<&OsStr>) {
+    let folder = folder(path);
+    (fs::canonicalize(folder).unwrap_or(folder.to_path_buf()), path.file_name())
+}
+
+/// Gives a file the owner and the group of the one that it replaces.
+#[cfg(unix)]
+fn keep_owner(file: &File, old: &Metadata) -> io::Result<()> {
+    use std::os::unix::fs::{fchown, MetadataExt};
+    let new = file.metadata()?;
+    if (new.uid(), new.gid()) == (old.uid(), old.gid()) {
+        return Ok(());
+    }
+    let kept = fchown(file, Some(old.uid()), Some(old.gid()));
+    kept.map_err(|error| io::Error::new(error.kind(), format!("its owner and group cannot be kept: {error}")))
+}
+
+/// Gives a file the owner and the group of the one that it replaces; here the system does.
+#[cfg(not(unix))]
+fn keep_owner(_file: &File, _old: &Metadata) -> io::Result<()> {
+    Ok(())
+}
+
+/// A temporary file, removed unless it took its name, also where a signal ends the process.
 struct Temporary {
     path: PathBuf,
     renamed: bool,
+    _registered: Registered,
 }
 
 impl Temporary {
@@ -103,8 +230,8 @@ impl Temporary {
         let mut attempt = 0;
         loop {
             let path = folder.join(format!(".fluxproof-{}-{attempt}.tmp", std::process::id()));
-            match options.open(&path) {
-                Ok(file) => return Ok((Temporary { path, renamed: false }, file)),
+            match signals::step(|| options.open(&path).map(|file| (file, Registered::new(&path)))) {
+                Ok((file, registered)) => return Ok((Temporary { path, renamed: false, _registered: registered }, file)),
                 Err(error) if error.kind() == io::ErrorKind::AlreadyExists && attempt < ATTEMPTS => attempt += 1,
                 Err(error) => return Err(error),
             }

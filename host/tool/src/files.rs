@@ -25,7 +25,7 @@ pub struct Input {
     pub name: String,
     /// Its bytes, at most one more than the greatest image has.
     pub bytes: Vec<u8>,
-    /// Where it comes from; nothing for standard input.
+    /// Where it comes from, if the system can say so.
     pub origin: Option<Origin>,
 }
 
@@ -66,6 +66,11 @@ impl Input {
             return Err(Failure::file(format!("{}: longer than 268,435,456 bytes", self.name)));
         }
         Ok(self)
+    }
+
+    /// Who may use it.
+    pub fn permissions(&self) -> Option<Permissions> {
+        self.origin.as_ref().map(|(_, permissions)| permissions.clone())
     }
 
     /// The library's answer to a question about this image, or its refusal as a failure.
@@ -119,13 +124,27 @@ fn read_whole(file: &OsStr) -> io::Result<(Vec<u8>, Option<Origin>)> {
     let mut bytes = Vec::new();
     if file == "-" {
         io::stdin().lock().take(GREATEST + 1).read_to_end(&mut bytes)?;
-        return Ok((bytes, None));
+        return Ok((bytes, origin_of_standard_input()));
     }
     let opened = File::open(file)?;
     let metadata = opened.metadata()?;
     bytes.try_reserve(metadata.len().min(GREATEST) as usize + 1)?;
     opened.take(GREATEST + 1).read_to_end(&mut bytes)?;
     Ok((bytes, Some((identity(Path::new(file), &metadata)?, metadata.permissions()))))
+}
+
+/// The origin of standard input, which may be a file.
+#[cfg(unix)]
+fn origin_of_standard_input() -> Option<Origin> {
+    let file = File::from(std::os::fd::AsFd::as_fd(&io::stdin()).try_clone_to_owned().ok()?);
+    let metadata = file.metadata().ok()?;
+    Some((identity(Path::new("-"), &metadata).ok()?, metadata.permissions()))
+}
+
+/// The origin of standard input, which is not known.
+#[cfg(not(unix))]
+fn origin_of_standard_input() -> Option<Origin> {
+    None
 }
 
 /// What makes a file the same under another name: device and inode.

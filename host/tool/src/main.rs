@@ -1,5 +1,5 @@
 //! The command `fluxproof`: SuperCard Pro flux images on a test bench, by the proved library.
-#![forbid(unsafe_code)]
+#![deny(unsafe_code)]
 
 mod arguments;
 mod checksum;
@@ -17,7 +17,11 @@ mod read;
 mod reasons;
 mod replay;
 mod show;
+#[allow(unsafe_code)]
+#[cfg_attr(not(unix), path = "signals_elsewhere.rs")]
+mod signals;
 mod times;
+mod undo;
 mod validate;
 
 use std::ffi::OsString;
@@ -53,7 +57,12 @@ fn main() -> ExitCode {
     let mut out = failure::standard_output();
     let ended = run(words, &mut out);
     let flushed = out.flush().map_err(Failure::from);
-    match ended.and(flushed) {
+    // What standard output says of a failure is not said where it cannot be written.
+    let ended = match ended {
+        Err(told @ Failure::Told(..)) => Err(told),
+        said => flushed.and(said),
+    };
+    match ended {
         Ok(()) => ExitCode::SUCCESS,
         Err(Failure::Said(status)) => ExitCode::from(status as u8),
         Err(Failure::Told(status, message)) => complain(&message, status),

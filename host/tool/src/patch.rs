@@ -1,7 +1,7 @@
 //! `fluxproof patch`: an image with one revolution rewritten.
 
 use std::ffi::OsStr;
-use std::io::Write;
+use std::io::{self, Write};
 
 use crate::arguments::{number_of, place_of, Arguments, Command};
 use crate::checksum::{say_change, Checksum};
@@ -9,42 +9,74 @@ use crate::destination::{Destination, Kind};
 use crate::failure::Failure;
 use crate::files::{shown, Input};
 use crate::reasons::Asked;
-use crate::times::words_of_times;
+use crate::times::{words_of_times, Unit};
+use crate::undo::Change;
 
 /// The command.
 pub const COMMAND: Command = Command {
     name: "patch",
-    flags: &["--force", "--in-place"],
-    values: &["--duration", "--times", "--words"],
+    flags: &["--empty", "--force", "--in-place", "--us"],
+    values: &["--duration", "--times", "--undo", "--words"],
     help: include_str!("help/patch.txt"),
     run,
 };
 
-/// Where the new words come from.
-enum Source<'a> {
-    Times(&'a OsStr),
-    Words(&'a OsStr),
+/// What the file of the new words holds.
+enum Form {
+    /// Times as text.
+    Times(Unit),
+    /// Words as bytes.
+    Words,
 }
 
 /// Rewrites the revolution in memory, writes the image, and says what changed.
 fn run(arguments: &Arguments, out: &mut dyn Write) -> Result<(), Failure> {
     let [file, target, track, revolution] = arguments.operands(["FILE", "OUT", "TRACK", "REV"])?;
     let (track, revolution) = place_of(track, revolution)?;
-    let (duration, source) = (duration(arguments)?, Source::of(arguments)?);
+    let (duration, (form, source), undo) = (duration(arguments)?, Form::of(arguments)?, arguments.value("--undo"));
     let mut input = Input::read_file(file)?;
-    let destination = Destination::new(target, &input, arguments, Kind::Image)?;
+    let source = Input::read_all(source)?;
+    let destination = Destination::new(target, &[&input, &source], arguments, Kind::Image)?;
+    let undo = undo.map(|undo| destination.fresh(undo, &input)).transpose()?;
     let old = input.ask_of((track, revolution), scp::revolution)?;
+    let words = form.words(&source, old.words)?;
+    if words.is_empty() && !arguments.has("--empty") {
+        return Err(Failure::usage(format!("{}: there is nothing in it (--empty is for a revolution without words)", source.name)));
+    }
+    let duration = (old.duration, duration.unwrap_or(old.duration));
+    let change = Change { track, revolution, duration, words: (old.words as usize, words.len() / 2) };
+    let former = input.ask_of((track, revolution), scp::flux)?.to_vec();
     let before = input.ask(Checksum::of)?;
-    let words = source.words(old.words)?;
-    let duration = duration.unwrap_or(old.duration);
-    let done = scp::rewrite(&mut input.bytes, track, revolution, duration, &words);
+    let done = scp::rewrite(&mut input.bytes, track, revolution, duration.1, &words);
     done.map_err(|refusal| input.refused(Asked { track, revolution, size: words.len() }, refusal))?;
     let after = input.ask(Checksum::of)?;
-    destination.write(&input.bytes)?;
+    let staged = destination.stage(&input.bytes)?;
+    match undo {
+        Some(undo) => staged.commit_after(undo.stage(change.undo(&former, &input.name, &shown(target))?.as_bytes())?)?,
+        None => staged.commit()?,
+    }
     writeln!(out, "track {track} revolution {revolution} of {} rewritten in {}", input.name, shown(target))?;
-    writeln!(out, "duration {} -> {duration}", old.duration)?;
-    writeln!(out, "words {} -> {}", old.words, words.len() / 2)?;
+    say(out, &change, &kept(arguments, &input))?;
     Ok(say_change(out, &before, &after)?)
+}
+
+/// Where the former words are.
+fn kept(arguments: &Arguments, input: &Input) -> String {
+    match arguments.value("--undo") {
+        Some(undo) => format!("are in {}", shown(undo)),
+        None if arguments.has("--in-place") => "were not kept".to_string(),
+        None => format!("are still in {}", input.name),
+    }
+}
+
+/// Says what changed, and what cannot be taken back.
+fn say(out: &mut dyn Write, change: &Change, kept: &str) -> io::Result<()> {
+    writeln!(out, "duration {} -> {}", change.duration.0, change.duration.1)?;
+    writeln!(out, "words {} -> {}", change.words.0, change.words.1)?;
+    if change.is_shorter() {
+        writeln!(out, "{}; its former words {kept}", Change::SHORTER)?;
+    }
+    Ok(())
 }
 
 /// The new duration, or nothing to keep the old one.
@@ -56,22 +88,24 @@ fn duration(arguments: &Arguments) -> Result<Option<u32>, Failure> {
     }
 }
 
-impl<'a> Source<'a> {
-    /// The one source that is named.
-    fn of(arguments: &'a Arguments) -> Result<Source<'a>, Failure> {
+impl Form {
+    /// The one form that is named, and its file.
+    fn of(arguments: &Arguments) -> Result<(Form, &OsStr), Failure> {
+        let us = arguments.has("--us");
         match (arguments.value("--times"), arguments.value("--words")) {
-            (Some(file), None) => Ok(Source::Times(file)),
-            (None, Some(file)) => Ok(Source::Words(file)),
+            (Some(file), None) => Ok((Form::Times(if us { Unit::Microseconds } else { Unit::Ticks }), file)),
+            (None, Some(_)) if us => Err(Failure::usage("--us is for --times, which is missing")),
+            (None, Some(file)) => Ok((Form::Words, file)),
             (None, None) => Err(Failure::usage("--times or --words is missing")),
             (Some(_), Some(_)) => Err(Failure::usage("--times and --words exclude each other")),
         }
     }
 
     /// The new words as bytes, for a revolution of so many.
-    fn words(&self, most: u32) -> Result<Vec<u8>, Failure> {
+    fn words(&self, source: &Input, most: u32) -> Result<Vec<u8>, Failure> {
         match self {
-            Source::Times(file) => words_of_times(file, most),
-            Source::Words(file) => Ok(Input::read_all(file)?.bytes),
+            Form::Times(unit) => words_of_times(source, *unit, most),
+            Form::Words => Ok(source.bytes.clone()),
         }
     }
 }

@@ -23,6 +23,7 @@ fn run(arguments: &Arguments, out: &mut dyn Write) -> Result<(), Failure> {
     let place = place_of(track, revolution)?;
     let input = Input::read(file)?;
     let subject = Subject::of(&input, place)?;
-    Destination::new(target, &input, arguments, Kind::Drawing)?.write(drawing::svg(&subject).as_bytes())?;
+    let destination = Destination::new(target, &[&input], arguments, Kind::Drawing)?;
+    destination.stage(drawing::svg(&subject).as_bytes())?.commit()?;
     Ok(writeln!(out, "{} drawn in {}", counted(subject.intervals.len() as u64, "interval"), shown(target))?)
 }

@@ -82,7 +82,7 @@ fn revolutions(image: &[u8], asked: Asked) -> Option<String> {
 /// Why the new words of a revolution are not taken.
 fn words(image: &[u8], asked: Asked) -> Option<String> {
     if asked.size % 2 == 1 {
-        return Some(format!("{} are no whole number of words", counted(asked.size as u64, "byte")));
+        return Some(format!("an odd number of bytes, {}", grouped(asked.size as u64)));
     }
     let most = scp::revolution(image, asked.track, asked.revolution).ok()?.words;
     Some(too_many(asked.size as u128 / 2, most))

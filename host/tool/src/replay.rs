@@ -10,6 +10,7 @@ use crate::destination::{Destination, Kind};
 use crate::failure::Failure;
 use crate::files::{shown, Input};
 use crate::numbers::number;
+use crate::reasons::{self, Asked};
 
 /// The command.
 pub const COMMAND: Command =
@@ -25,28 +26,52 @@ fn run(arguments: &Arguments, out: &mut dyn Write) -> Result<(), Failure> {
         }
     }
     let mut input = Input::read_file(file)?;
+    let text = Input::read_all(calls)?;
     let destination = match target {
-        Some(target) => Some(Destination::new(target, &input, arguments, Kind::Image)?),
+        Some(target) => Some(Destination::new(target, &[&input, &text], arguments, Kind::Image)?),
         None => None,
     };
     if destination.is_some() {
         input = input.uncut()?;
     }
-    let (lines, calls) = read_calls(&Input::read_all(calls)?)?;
+    let (lines, calls) = read_calls(&text)?;
     let before = Checksum::of(&input.bytes);
+    let mut image = input.bytes.clone();
     let answers = scp::replay(&mut input.bytes, &calls);
     for ((line, call), answer) in lines.iter().zip(&calls).zip(answers) {
-        let answer = answer.map_or_else(|refusal| refusal.to_string(), say_answer);
+        let answer = answer.map_or_else(|refusal| reasons::of_asked(&image, asked(call), refusal), say_answer);
         writeln!(out, "{line}: {}: {answer}", say_call(call))?;
+        follow(&mut image, call);
     }
     if let (Some(destination), Some(target)) = (destination, target) {
-        destination.write(&input.bytes)?;
+        destination.stage(&input.bytes)?.commit()?;
         writeln!(out, "written to {}", shown(target))?;
         if let (Ok(before), Ok(after)) = (before, Checksum::of(&input.bytes)) {
             say_change(out, &before, &after)?;
         }
     }
     Ok(())
+}
+
+/// What a call asks of an image.
+fn asked(call: &Call) -> Asked {
+    let (track, revolution, size) = match call {
+        Call::Validate | Call::Header | Call::Footer => (0, 0, 0),
+        Call::Track { track } | Call::TrackSpeed { track } => (*track, 0, 0),
+        Call::Revolution { track, revolution } | Call::Flux { track, revolution } | Call::Speed { track, revolution } => {
+            (*track, *revolution, 0)
+        }
+        Call::Rewrite { track, revolution, words, .. } => (*track, *revolution, words.len()),
+    };
+    Asked { track, revolution, size }
+}
+
+/// Makes a call once more on a copy of the image, so that the reason of the next refusal is looked up in the bytes that it was about.
+fn follow(image: &mut [u8], call: &Call) {
+    if let Call::Rewrite { track, revolution, duration, words } = call {
+        // What it answers is known already.
+        let _ = scp::rewrite(image, *track, *revolution, *duration, words);
+    }
 }
 
 /// The calls of a file, and the numbers of their lines.

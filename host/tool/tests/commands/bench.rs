@@ -3,7 +3,7 @@
 use std::fs;
 use std::io::Write;
 use std::path::PathBuf;
-use std::process::{Command, Stdio};
+use std::process::{Command, Output, Stdio};
 use std::sync::atomic::{AtomicU32, Ordering};
 
 /// A folder that is removed at the end.
@@ -19,6 +19,14 @@ pub struct Run {
     pub err: String,
 }
 
+impl Run {
+    /// What an ended process gave.
+    pub fn of(done: Output) -> Run {
+        let text = |bytes| String::from_utf8(bytes).expect("UTF-8");
+        Run { status: done.status.code().expect("an exit status"), out: text(done.stdout), err: text(done.stderr) }
+    }
+}
+
 /// Folders made so far by this process.
 static FOLDERS: AtomicU32 = AtomicU32::new(0);
 
@@ -30,6 +38,13 @@ impl Bench {
         fs::create_dir_all(&folder).expect("a temporary folder");
         let bench = Bench { folder };
         bench.put("a.scp", &scp::example::image_a());
+        bench
+    }
+
+    /// The same, with the new words of the example as words.bin.
+    pub fn with_words() -> Bench {
+        let bench = Bench::new();
+        bench.put("words.bin", &NEW_WORDS);
         bench
     }
 
@@ -61,16 +76,20 @@ impl Bench {
         self.run_with(line, &[])
     }
 
-    /// Runs the command with the words of a line and some standard input.
-    pub fn run_with(&self, line: &str, input: &[u8]) -> Run {
+    /// The command with the words of a line, ready to run in the folder.
+    pub fn command(&self, line: &str) -> Command {
         let mut command = Command::new(env!("CARGO_BIN_EXE_fluxproof"));
         command.args(line.split_whitespace()).current_dir(&self.folder);
-        let mut child = command.stdin(Stdio::piped()).stdout(Stdio::piped()).stderr(Stdio::piped()).spawn().expect("the command runs");
+        command.stdin(Stdio::piped()).stdout(Stdio::piped()).stderr(Stdio::piped());
+        command
+    }
+
+    /// Runs the command with the words of a line and some standard input.
+    pub fn run_with(&self, line: &str, input: &[u8]) -> Run {
+        let mut child = self.command(line).spawn().expect("the command runs");
         // A command that does not read its input closes it.
         let _ = child.stdin.take().expect("standard input").write_all(input);
-        let done = child.wait_with_output().expect("the command ends");
-        let text = |bytes| String::from_utf8(bytes).expect("UTF-8");
-        Run { status: done.status.code().expect("an exit status"), out: text(done.stdout), err: text(done.stderr) }
+        Run::of(child.wait_with_output().expect("the command ends"))
     }
 
     /// Runs the command and expects it to fail with a status, nothing on standard output and a message that holds a part.
@@ -92,6 +111,17 @@ impl Drop for Bench {
     fn drop(&mut self) {
         let _ = fs::remove_dir_all(&self.folder);
     }
+}
+
+/// The new words of the example: 320, 65,537 and 240 ticks.
+pub const NEW_WORDS: [u8; 8] = [0x01, 0x40, 0x00, 0x00, 0x00, 0x01, 0x00, 0xF0];
+
+/// Image A rewritten by the example: 885 is stored.
+pub fn patched_a() -> Vec<u8> {
+    let mut image = scp::example::image_a();
+    image[0x0C..0x0E].copy_from_slice(&885_u16.to_le_bytes());
+    image[704..].copy_from_slice(&NEW_WORDS);
+    image
 }
 
 /// Image A with 981 stored.

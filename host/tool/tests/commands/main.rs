@@ -1,6 +1,7 @@
 //! Runs the command `fluxproof` in temporary folders, as a user does.
 
 mod bench;
+mod destinations;
 mod list;
 mod patch;
 mod plot;
@@ -8,5 +9,9 @@ mod read;
 mod reasons;
 mod replay;
 mod show;
+#[cfg(target_os = "linux")]
+mod signals;
+mod streams;
+mod undo;
 mod usage;
 mod validate;

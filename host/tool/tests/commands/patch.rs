@@ -2,25 +2,13 @@
 
 use std::fs;
 
-use crate::bench::{damaged_a, image, store_sum, with_footer, Bench};
+use crate::bench::{damaged_a, image, patched_a, store_sum, with_footer, Bench};
 
-/// The new words of the example: 320, 65,537 and 240 ticks.
-const NEW_WORDS: [u8; 8] = [0x01, 0x40, 0x00, 0x00, 0x00, 0x01, 0x00, 0xF0];
-
-/// A bench with these as times and as words.
+/// A bench with the words of the example, also as times.
 fn bench() -> Bench {
-    let bench = Bench::new();
+    let bench = Bench::with_words();
     bench.put("times.txt", b"# new\n320\n\n  65537 # long\r\n240");
-    bench.put("words.bin", &NEW_WORDS);
     bench
-}
-
-/// Image A rewritten by the example: 885 is stored.
-fn patched_a() -> Vec<u8> {
-    let mut image = scp::example::image_a();
-    image[0x0C..0x0E].copy_from_slice(&885_u16.to_le_bytes());
-    image[704..].copy_from_slice(&NEW_WORDS);
-    image
 }
 
 #[test]
@@ -51,7 +39,7 @@ fn a_damaged_image_stays_damaged() {
 fn fewer_words_and_another_duration_are_put() {
     let bench = bench();
     bench.put("none.txt", b"# no time at all\n");
-    let out = bench.passes("patch a.scp b.scp 0 0 --duration 0xFFFFFFFF --times none.txt");
+    let out = bench.passes("patch a.scp b.scp 0 0 --duration 0xFFFFFFFF --times none.txt --empty");
     assert!(out.contains("duration 8000000 -> 4294967295\nwords 4 -> 0\n"), "{out}");
     let image = bench.get("b.scp");
     let found = scp::revolution(&image, 0, 0).expect("it opens");
@@ -64,10 +52,10 @@ fn what_read_prints_can_be_patched_back() {
     let words: Vec<u16> = (1..2000).map(|number| if number % 50 == 0 { 0 } else { number * 31 }).chain([0, 0, 0]).collect();
     let first = with_footer(image(0, &[(0, &[(1, &[5]), (2, &[6])]), (9, &[(3, &words), (4, &words)])]), [b"x"; 6], 1, 2);
     bench.put("r.scp", &first);
-    for form in ["", "--us", "--csv", "--us --csv"] {
+    for (form, unit) in [("", ""), ("--us", "--us"), ("--csv", ""), ("--us --csv", "--us")] {
         let times = bench.passes(&format!("read r.scp 9 1 {form}"));
         assert!(times.lines().last().is_some_and(|line| line.starts_with("open")), "{times}");
-        let run = bench.run_with("patch r.scp s.scp 9 1 --duration keep --times - --force", times.as_bytes());
+        let run = bench.run_with(&format!("patch r.scp s.scp 9 1 --duration keep --times - --force {unit}"), times.as_bytes());
         assert_eq!((run.status, run.err.as_str()), (0, ""), "{form}");
         assert_eq!(bench.get("s.scp"), first, "{form}");
     }
@@ -77,7 +65,53 @@ fn what_read_prints_can_be_patched_back() {
 fn rows_of_a_spreadsheet_are_taken() {
     let bench = bench();
     bench.put("rows.csv", "\u{FEFF}index,microseconds\r\n0, 8\r\n7,1638.425\r\n2,6.0\r\n".as_bytes());
-    bench.passes("patch a.scp b.scp 0 0 --duration keep --times rows.csv");
+    bench.passes("patch a.scp b.scp 0 0 --duration keep --times rows.csv --us");
+    assert_eq!(bench.get("b.scp"), patched_a());
+}
+
+#[test]
+fn a_file_of_times_has_one_unit() {
+    let bench = bench();
+    bench.put("us.txt", b"8\n1638.425\n6\n");
+    bench.passes("patch a.scp b.scp 0 0 --duration keep --times us.txt --us");
+    assert_eq!(bench.get("b.scp"), patched_a());
+    bench.put("open.txt", b"4\nopen 3276.8\n");
+    bench.passes("patch a.scp c.scp 0 0 --duration keep --times open.txt --us");
+    assert_eq!(bench.passes("read c.scp 0 0"), "160\nopen 131072\n");
+    for (text, unit, message) in [
+        ("160\n1638.425\n", "", "line 2: \"1638.425\" is no whole number of ticks; --us is for microseconds"),
+        ("160\nopen 1638.4\n", "", "line 2: \"1638.4\" is no whole number of ticks; --us is for microseconds"),
+        ("index,ticks\n0,4.000\n", "", "line 2: \"4.000\" is no whole number of ticks; --us is for microseconds"),
+        ("index,microseconds\n0,4.000\n", "", "line 1: these are microseconds; give --us, too"),
+        ("index,microseconds\n0,4\n", "", "line 1: these are microseconds; give --us, too"),
+        ("index,ticks\n0,160\n", "--us", "line 1: these are ticks, but --us is given; leave it out"),
+        ("4\n\n1.01\n", "--us", "line 3: 1.01 microseconds are no whole number of ticks of 0.025"),
+        ("4\nopen 4\n", "--us", "line 2: an open time of 160 ticks is no multiple of 65,536"),
+    ] {
+        bench.put("bad.txt", text.as_bytes());
+        bench.fails(&format!("patch a.scp d.scp 0 0 --duration 1 --times bad.txt {unit}"), 2, &format!("bad.txt: {message}"));
+    }
+    assert!(!bench.path("d.scp").exists());
+}
+
+#[test]
+fn nothing_at_all_is_refused_unless_it_is_meant() {
+    let bench = bench();
+    let nothing = "there is nothing in it (--empty is for a revolution without words)";
+    for text in ["", "\n", "# 160\n\n  # 240\r\n", "index,ticks\n", "open 0\n", "\u{FEFF}"] {
+        bench.put("empty.txt", text.as_bytes());
+        bench.fails("patch a.scp b.scp 0 0 --duration keep --times empty.txt", 2, &format!("empty.txt: {nothing}"));
+    }
+    bench.put("empty.bin", b"");
+    bench.fails("patch a.scp b.scp 0 0 --duration keep --words empty.bin", 2, &format!("empty.bin: {nothing}"));
+    bench.fails("patch a.scp b.scp 0 0 --duration keep --times -", 2, &format!("standard input: {nothing}"));
+    bench.fails("patch a.scp a.scp 0 0 --duration keep --words - --in-place", 2, &format!("standard input: {nothing}"));
+    assert_eq!(bench.get("a.scp"), scp::example::image_a());
+    for source in ["--times empty.txt", "--words empty.bin", "--times -"] {
+        bench.passes(&format!("patch a.scp b.scp 0 0 --duration keep {source} --empty --force"));
+        assert_eq!(scp::revolution(&bench.get("b.scp"), 0, 0).map(|found| found.words), Ok(0));
+    }
+    bench.passes("patch a.scp b.scp 0 0 --duration keep --words words.bin --empty --force");
     assert_eq!(bench.get("b.scp"), patched_a());
 }
 
@@ -92,15 +126,18 @@ fn refused_patches_leave_everything() {
     bench.put("zero.txt", b"1\n# comment\n65536\n");
     let names = bench.names();
     for (arguments, status, message) in [
-        ("1 0 --duration 1 --words words.bin", 1, "a.scp: refused 13 (Absent) at 0"),
-        ("0 1 --duration 1 --words words.bin", 1, "a.scp: refused 14 (Revolution) at 0"),
-        ("0 0 --duration 1 --words odd.bin", 1, "a.scp: refused 17 (Words) at 0"),
-        ("0 0 --duration 1 --words many.bin", 1, "a.scp: refused 17 (Words) at 0"),
-        ("0 0 --duration 1 --words none.bin", 1, "none.bin: No such file"),
-        ("0 0 --duration 1 --times long.txt", 1, "refused 17 (Words) at 0"),
-        ("0 0 --duration 1 --times long.txt", 1, "(the times need 5 words, the revolution has 4)"),
-        ("0 0 --duration 1 --times gap.txt", 1, "(the times need 6 words, the revolution has 4)"),
-        ("0 0 --duration 1 --times zero.txt", 1, "zero.txt: line 3: refused 16 (Time) at 1"),
+        ("1 0 --duration 1 --words words.bin", 1, "a.scp: refused 13 Absent: track 1 has no entry"),
+        ("0 1 --duration 1 --words words.bin", 1, "a.scp: refused 14 Revolution: revolution 1 of track 0"),
+        ("0 0 --duration 1 --words odd.bin", 1, "a.scp: refused 17 Words: an odd number of bytes, 3"),
+        ("0 0 --duration 1 --words many.bin", 1, "a.scp: refused 17 Words: 5 words, where the revolution has 4"),
+        ("0 0 --duration 1 --words none.bin", 3, "none.bin: No such file"),
+        ("0 0 --duration 1 --times long.txt", 1, "long.txt: refused 17 Words: 5 words, where the revolution has 4"),
+        ("0 0 --duration 1 --times gap.txt", 1, "gap.txt: refused 17 Words: 6 words, where the revolution has 4"),
+        (
+            "0 0 --duration 1 --times zero.txt",
+            1,
+            "zero.txt: line 3: refused 16 Time: 65,536 ticks, a multiple of 65,536, which no word closes",
+        ),
         ("0 0 --duration 4294967296 --words words.bin", 2, "--duration: 4294967296 is above"),
         ("0 0 --words words.bin", 2, "--duration is missing"),
         ("0 0 --duration 1", 2, "--times or --words is missing"),
@@ -110,7 +147,11 @@ fn refused_patches_leave_everything() {
         assert_eq!((bench.get("out.scp"), bench.names()), (b"precious".to_vec(), names.clone()), "{arguments}");
     }
     bench.put("d.scp", &bench.get("a.scp")[..700]);
-    bench.fails("patch d.scp e.scp 0 0 --duration 1 --words words.bin", 1, "d.scp: refused 10 (Track) at 0");
+    bench.fails(
+        "patch d.scp e.scp 0 0 --duration 1 --words words.bin",
+        1,
+        "d.scp: refused 10 Track: track 0: its header of 16 bytes at 688 ends at 704, past 700",
+    );
     bench.fails("patch - e.scp 0 0 --duration 1 --words words.bin", 2, "standard input");
 }
 
@@ -123,7 +164,11 @@ fn shared_bytes_are_refused() {
     store_sum(&mut shared);
     bench.put("s.scp", &shared);
     bench.put("one.txt", b"9\n");
-    bench.fails("patch s.scp b.scp 0 0 --duration 1 --times one.txt", 1, "s.scp: refused 18 (Shared) at 0");
+    bench.fails(
+        "patch s.scp b.scp 0 0 --duration 1 --times one.txt",
+        1,
+        "s.scp: refused 18 Shared: byte 718 is of its present flux and of the flux of track 0, revolution 1",
+    );
     assert!(!bench.path("b.scp").exists());
 }
 
@@ -133,12 +178,10 @@ fn bad_lines_have_their_numbers() {
     for (text, message) in [
         ("160\nx\n", "line 2: \"x\" is not a time"),
         ("160\n-5\n", "line 2: \"-5\" is not a time"),
-        ("\n\n1.01\n", "line 3: 1.01 microseconds are no whole number of ticks"),
         ("99999999999999999999\n", "line 1: 99999999999999999999 is too long a time"),
         ("1\nindex,ticks\n", "line 2: \"index,ticks\" is not a time"),
         ("65,537\n", "line 1: \"65,537\" is not a time"),
         ("1 2\n", "line 1: \"1 2\" is not a time"),
-        ("index,ticks\n0,4.000\n", "line 2: \"4.000\" is not a time"),
         ("index,ticks\n160\n", "line 2: \"160\" is no row of an index and a time"),
         ("index,ticks\n,160\n", "line 2: \",160\" is not a time"),
         ("index,ticks\n0,160,5\n", "line 2: \"160,5\" is not a time"),
@@ -148,84 +191,8 @@ fn bad_lines_have_their_numbers() {
         ("1\n\u{7}\n", "line 2: \"\\u{7}\" is not a time"),
     ] {
         bench.put("bad.txt", text.as_bytes());
-        bench.fails("patch a.scp b.scp 0 0 --duration 1 --times bad.txt", 1, &format!("bad.txt: {message}"));
+        bench.fails("patch a.scp b.scp 0 0 --duration 1 --times bad.txt", 2, &format!("bad.txt: {message}"));
     }
     bench.put("bad.txt", b"1\n\xFF\n");
-    bench.fails("patch a.scp b.scp 0 0 --duration 1 --times bad.txt", 1, "bad.txt: line 2: not UTF-8");
-}
-
-#[test]
-fn an_existing_file_is_replaced_only_by_force() {
-    let bench = bench();
-    bench.put("b.scp", b"precious");
-    bench.fails("patch a.scp b.scp 0 0 --duration 1 --words words.bin", 1, "b.scp: it exists already; --force replaces it");
-    assert_eq!(bench.get("b.scp"), b"precious");
-    bench.passes("patch a.scp b.scp 0 0 --duration 8000000 --words words.bin --force");
-    assert_eq!(bench.get("b.scp"), patched_a());
-    bench.fails("patch a.scp . 0 0 --duration 1 --words words.bin --force", 1, "names no file");
-    fs::create_dir(bench.path("folder")).expect("a folder");
-    bench.fails("patch a.scp folder 0 0 --duration 1 --words words.bin --force", 1, "folder: this is not a regular file");
-    bench.fails("patch a.scp none/b.scp 0 0 --duration 1 --words words.bin", 1, "none/b.scp: cannot be written: No such file");
-    bench.fails("patch a.scp - 0 0 --duration 1 --words words.bin", 1, "names no file");
-}
-
-#[cfg(unix)]
-#[test]
-fn a_failed_write_leaves_no_temporary_file() {
-    let bench = bench();
-    let names = bench.names();
-    // The temporary file can be made, but no file can have a name that ends like a folder's.
-    for force in ["", "--force"] {
-        bench.fails(&format!("patch a.scp new.scp/ 0 0 --duration 1 --words words.bin {force}"), 1, "cannot be written: ");
-        bench.fails(&format!("patch a.scp a.scp/ 0 0 --duration 1 --words words.bin {force}"), 1, "cannot be written: ");
-    }
-    assert_eq!((bench.names(), bench.get("a.scp")), (names, scp::example::image_a()));
-}
-
-#[test]
-fn the_input_is_replaced_only_in_place() {
-    let bench = bench();
-    let tail = "0 0 --duration 8000000 --words words.bin";
-    for force in ["", "--force"] {
-        for out in ["a.scp", "./a.scp", "../{}/a.scp"] {
-            let out = out.replace("{}", &bench.folder.file_name().expect("a name").to_string_lossy());
-            bench.fails(&format!("patch a.scp {out} {tail} {force}"), 1, "this is the image itself; --in-place replaces it");
-        }
-    }
-    bench.fails(&format!("patch a.scp b.scp {tail} --in-place"), 1, "--in-place is given, but this is not the image");
-    assert_eq!(bench.get("a.scp"), scp::example::image_a());
-    let out = bench.passes(&format!("patch a.scp ./a.scp {tail} --in-place"));
-    assert!(out.contains("checksum 980 -> 885"), "{out}");
-    assert_eq!((bench.get("a.scp"), bench.names().len()), (patched_a(), 3));
-}
-
-#[cfg(unix)]
-#[test]
-fn links_do_not_hide_the_input() {
-    let bench = bench();
-    let tail = "0 0 --duration 8000000 --words words.bin";
-    std::os::unix::fs::symlink("a.scp", bench.path("soft.scp")).expect("a symbolic link");
-    std::os::unix::fs::symlink("nowhere.scp", bench.path("broken.scp")).expect("a symbolic link");
-    fs::hard_link(bench.path("a.scp"), bench.path("hard.scp")).expect("a hard link");
-    for (file, out) in [("a.scp", "soft.scp"), ("soft.scp", "a.scp"), ("a.scp", "hard.scp"), ("hard.scp", "soft.scp")] {
-        bench.fails(&format!("patch {file} {out} {tail} --force"), 1, "this is the image itself");
-    }
-    bench.fails(&format!("patch a.scp broken.scp {tail} --force"), 1, "broken.scp: this is a link that leads to no file");
-    assert_eq!(bench.get("hard.scp"), scp::example::image_a());
-    bench.passes(&format!("patch soft.scp soft.scp {tail} --in-place"));
-    assert_eq!((bench.get("a.scp"), bench.get("hard.scp")), (patched_a(), scp::example::image_a()));
-    assert!(fs::symlink_metadata(bench.path("soft.scp")).expect("the link").is_symlink());
-}
-
-#[cfg(unix)]
-#[test]
-fn permissions_are_the_input_s() {
-    use std::os::unix::fs::PermissionsExt;
-    let bench = bench();
-    for mode in [0o600, 0o444, 0o640] {
-        fs::set_permissions(bench.path("a.scp"), fs::Permissions::from_mode(mode)).expect("permissions set");
-        bench.passes("patch a.scp b.scp 0 0 --duration keep --words words.bin --force");
-        let found = fs::metadata(bench.path("b.scp")).expect("the image").permissions().mode();
-        assert_eq!(found & 0o7777, mode);
-    }
+    bench.fails("patch a.scp b.scp 0 0 --duration 1 --times bad.txt", 2, "bad.txt: line 2: not UTF-8");
 }

@@ -95,9 +95,9 @@ fn names_are_escaped() {
 fn existing_files_and_the_image_are_kept() {
     let bench = Bench::new();
     bench.put("a.svg", b"precious");
-    bench.fails("plot a.scp 0 0 a.svg", 1, "a.svg: it exists already; --force replaces it");
-    bench.fails("plot a.scp 0 0 a.scp --force", 1, "a.scp: this is the image itself");
-    bench.fails("plot a.scp 9 0 b.svg", 1, "a.scp: refused 13 (Absent) at 0");
+    bench.fails("plot a.scp 0 0 a.svg", 3, "a.svg: it exists already; --force replaces it");
+    bench.fails("plot a.scp 0 0 a.scp --force", 3, "a.scp: this is the image itself");
+    bench.fails("plot a.scp 9 0 b.svg", 1, "a.scp: refused 13 Absent: track 9 has no entry");
     bench.fails("plot a.scp 0 0", 2, "OUT.svg is missing");
     assert_eq!((bench.get("a.svg"), bench.get("a.scp")), (b"precious".to_vec(), scp::example::image_a()));
     let run = bench.run_with("plot - 0 0 b.svg", &scp::example::image_a());

@@ -1,7 +1,5 @@
 //! `fluxproof read`.
 
-use std::process::{Command, Stdio};
-
 use crate::bench::{damaged_a, image, Bench};
 
 #[test]
@@ -27,36 +25,13 @@ fn open_time_comes_last() {
 #[test]
 fn refusals_and_wrong_numbers_are_said() {
     let bench = Bench::new();
-    bench.fails("read a.scp 1 0", 1, "a.scp: refused 13 (Absent) at 0");
-    bench.fails("read a.scp 0 1 --csv", 1, "a.scp: refused 14 (Revolution) at 0");
+    bench.fails("read a.scp 1 0", 1, "a.scp: refused 13 Absent: track 1 has no entry");
+    bench.fails("read a.scp 0 1 --csv", 1, "a.scp: refused 14 Revolution: revolution 1 of track 0");
     bench.fails("read a.scp 4294967295 0", 1, "refused 13");
     bench.fails("read a.scp 4294967296 0", 2, "TRACK: 4294967296 is above 4,294,967,295");
     bench.fails("read a.scp 0 0x100000000", 2, "REV: 0x100000000 is above 4,294,967,295");
     bench.fails("read a.scp zero 0", 2, "TRACK: \"zero\" is not a number");
     bench.fails("read a.scp 0 -1", 2, "unknown option \"-1\"");
     bench.fails("read a.scp 0", 2, "REV is missing");
-}
-
-#[test]
-fn a_closed_pipe_is_no_failure() {
-    let bench = Bench::new();
-    let words = vec![160; 100_000];
-    bench.put("b.scp", &image(1, &[(0, &[(8_000_000, &words)])]));
-    let mut command = Command::new(env!("CARGO_BIN_EXE_fluxproof"));
-    command.args(["read", "b.scp", "0", "0"]).current_dir(&bench.folder).stdout(Stdio::piped()).stderr(Stdio::piped());
-    let mut child = command.spawn().expect("the command runs");
-    drop(child.stdout.take());
-    let done = child.wait_with_output().expect("the command ends");
-    assert_eq!((done.status.code(), done.stderr), (Some(0), Vec::new()));
-}
-
-#[cfg(target_os = "linux")]
-#[test]
-fn a_full_disk_is_a_failure() {
-    let bench = Bench::new();
-    let full = std::fs::OpenOptions::new().write(true).open("/dev/full").expect("the full device");
-    let mut command = Command::new(env!("CARGO_BIN_EXE_fluxproof"));
-    let done = command.args(["read", "a.scp", "0", "0"]).current_dir(&bench.folder).stdout(full).output().expect("the command runs");
-    assert_eq!(done.status.code(), Some(1));
-    assert!(String::from_utf8_lossy(&done.stderr).contains("standard output: No space left"));
+    bench.fails("read none.scp 0 0", 3, "none.scp: No such file");
 }

@@ -171,7 +171,7 @@ fn a_rewrite_that_is_refused_is_told() {
     bench.put("five.bin", &[1; 10]);
     let words = "--words two.bin";
     for (bytes, words, said) in [
-        (at(32), "--words odd.bin", "17 Words: 3 bytes are no whole number of words"),
+        (at(32), "--words odd.bin", "17 Words: an odd number of bytes, 3"),
         (at(32), "--words five.bin", "17 Words: 5 words, where the revolution has 2"),
         (at(30), words, "18 Shared: byte 718 is of its present flux and of the flux of track 0, revolution 0"),
         (at(24), words, "18 Shared: byte 712 is of its present flux and of the header of track 0"),

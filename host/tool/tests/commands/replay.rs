@@ -39,8 +39,8 @@ const ANSWERS: &str = "\
 13: rewrite 0 0 0 (0 bytes): ok
 14: speed 0 0: none
 15: track-speed 0: none
-16: track 1: refused 13 (Absent) at 0: the track asked for is not in the image
-17: rewrite 0 0 0 (1 bytes): refused 17 (Words) at 0: the flux has an odd number of bytes, is too long, or has more words than the revolution
+16: track 1: refused 13 Absent: track 1 has no entry in the table, which has 1 track
+17: rewrite 0 0 0 (1 bytes): refused 17 Words: an odd number of bytes, 1
 18: validate: ok
 ";
 
@@ -61,8 +61,8 @@ fn the_image_after_the_calls_is_written() {
     let out = bench.passes("replay a.scp calls.txt --out b.scp");
     assert_eq!(out, "1: rewrite 0 0 8000000 (8 bytes): ok\nwritten to b.scp\nchecksum 980 -> 885\n");
     assert_eq!(scp::header(&bench.get("b.scp")).map(|header| header.checksum), Ok(885));
-    bench.fails("replay a.scp calls.txt --out b.scp", 1, "exists already");
-    bench.fails("replay a.scp calls.txt --out a.scp --force", 1, "this is the image itself");
+    bench.fails("replay a.scp calls.txt --out b.scp", 3, "exists already");
+    bench.fails("replay a.scp calls.txt --out a.scp --force", 3, "this is the image itself");
     bench.fails("replay a.scp calls.txt --force", 2, "--force is for --out");
     bench.put("d.scp", &damaged_a());
     let out = bench.passes("replay d.scp calls.txt --out b.scp --force");
@@ -77,7 +77,7 @@ fn answers_of_a_refused_image_are_refusals() {
     let bench = Bench::new();
     bench.put("short.scp", b"SCP");
     bench.put("calls.txt", b"validate\nheader\n");
-    let size = "refused 1 (Size) at 0: the image is shorter than 688 bytes or longer than 268,435,456";
+    let size = "refused 1 Size: 3 bytes, fewer than 688";
     assert_eq!(bench.passes("replay short.scp calls.txt"), format!("1: validate: {size}\n2: header: {size}\n"));
     bench.passes("replay short.scp calls.txt --out copy.scp");
     assert_eq!(bench.get("copy.scp"), b"SCP");
@@ -89,9 +89,9 @@ fn an_image_that_is_too_long_is_not_written_cut() {
     let file = std::fs::File::create(bench.path("long.scp")).expect("a file");
     file.set_len(268_435_458).expect("a sparse file");
     bench.put("calls.txt", b"validate");
-    assert!(bench.passes("replay long.scp calls.txt").starts_with("1: validate: refused 1 (Size) at 0"));
-    bench.fails("replay long.scp calls.txt --out b.scp", 1, "long.scp: longer than 268,435,456 bytes");
-    bench.fails("replay long.scp calls.txt --out long.scp --in-place", 1, "long.scp: longer than 268,435,456 bytes");
+    assert!(bench.passes("replay long.scp calls.txt").starts_with("1: validate: refused 1 Size: more than 268,435,456 bytes\n"));
+    bench.fails("replay long.scp calls.txt --out b.scp", 3, "long.scp: longer than 268,435,456 bytes");
+    bench.fails("replay long.scp calls.txt --out long.scp --in-place", 3, "long.scp: longer than 268,435,456 bytes");
     assert_eq!((bench.names().len(), file.metadata().map(|found| found.len()).ok()), (3, Some(268_435_458)));
 }
 
@@ -124,9 +124,22 @@ fn a_line_that_cannot_be_read_stops_everything() {
         ("speed 0 one", "\"one\" is not a number"),
     ] {
         bench.put("calls.txt", format!("validate\nrewrite 0 0 0 -\n{line}\n").as_bytes());
-        bench.fails("replay a.scp calls.txt --out b.scp", 1, &format!("calls.txt: line 3: {message}"));
+        bench.fails("replay a.scp calls.txt --out b.scp", 2, &format!("calls.txt: line 3: {message}"));
     }
     assert_eq!(bench.names(), ["a.scp", "calls.txt"]);
-    bench.fails("replay a.scp none.txt", 1, "none.txt: No such file");
+    bench.fails("replay a.scp none.txt", 3, "none.txt: No such file");
     bench.fails("replay - calls.txt", 2, "standard input");
+}
+
+#[test]
+fn a_reason_is_that_of_the_bytes_that_the_call_got() {
+    let bench = Bench::new();
+    bench.put("calls.txt", b"rewrite 0 0 8000000 0001\nrewrite 0 0 8000000 0001 0002\nrewrite 0 0 1 -\nrewrite 0 0 1 0001\n");
+    let due = [
+        "1: rewrite 0 0 8000000 (2 bytes): ok",
+        "2: rewrite 0 0 8000000 (4 bytes): refused 17 Words: 2 words, where the revolution has 1",
+        "3: rewrite 0 0 1 (0 bytes): ok",
+        "4: rewrite 0 0 1 (2 bytes): refused 17 Words: 1 word, where the revolution has 0",
+    ];
+    assert_eq!(bench.passes("replay a.scp calls.txt").lines().collect::<Vec<_>>(), due);
 }

@@ -16,7 +16,7 @@ fn help_is_there_for_all() {
         assert!(whole.contains(&format!("\n  {command} ")), "{command}");
         let help = bench.passes(&format!("help {command}"));
         assert!(
-            help.starts_with(&format!("Usage: scp {command} ")) && help.contains("\nExample") && help.contains("Exit status"),
+            help.starts_with(&format!("Usage: fluxproof {command} ")) && help.contains("\nExample") && help.contains("Exit status"),
             "{help}"
         );
         assert_eq!(bench.passes(&format!("{command} --help")), help);
@@ -52,6 +52,9 @@ fn wrong_command_lines_name_the_help() {
     bench.fails("read a.scp 0 0 --us --us", 2, "--us is given twice");
     bench.fails("read a.scp 0 0 --us=1", 2, "--us takes no value");
     bench.fails("patch a.scp b.scp 0 0 --duration", 2, "--duration needs a value");
+    bench.fails("patch a.scp b.scp 0 0 --duration 1 --words a.scp --us", 2, "--us is for --times, which is missing");
+    bench.fails("patch a.scp - 0 0 --duration 1 --words a.scp", 2, "\"-\" names no file to write (one named - is ./-)");
+    bench.fails("patch a.scp a.scp 0 0 --duration 1 --words a.scp --in-place --force", 2, "--in-place and --force exclude each other");
 }
 
 #[test]

@@ -1,0 +1,176 @@
+//! What all commands do alike: bad input, a full disk and closed pipes.
+
+use std::fs::OpenOptions;
+use std::process::{Command, Stdio};
+
+use crate::bench::{damaged_a, image, Bench, Run};
+
+/// A run of each command on an image.
+const LINES: [&str; 7] = [
+    "list FILE",
+    "validate FILE",
+    "show FILE",
+    "read FILE 0 0",
+    "patch FILE out.scp 0 0 --duration keep --words words.bin --force",
+    "replay FILE calls.txt --out out.scp --force",
+    "plot FILE 0 0 out.svg --force",
+];
+
+/// A bench with all that the lines name.
+fn bench() -> Bench {
+    let bench = Bench::with_words();
+    bench.put("calls.txt", b"validate\nheader\n");
+    bench
+}
+
+/// The lines on a file.
+fn lines(file: &str) -> impl Iterator<Item = String> + '_ {
+    LINES.into_iter().map(move |line| line.replace("FILE", file))
+}
+
+#[test]
+fn a_file_that_cannot_be_read_gives_3() {
+    let bench = bench();
+    let names = bench.names();
+    for (file, message) in [("none.scp", "none.scp: No such file"), (".", ".: Is a directory"), ("a.scp/b", "a.scp/b: Not a directory")] {
+        for line in lines(file) {
+            let run = bench.run(&line);
+            assert!(run.status == 3 && (run.out + &run.err).contains(message), "{line}: {}", run.status);
+        }
+    }
+    assert_eq!(bench.names(), names);
+}
+
+#[test]
+fn an_image_that_is_refused_gives_1() {
+    let bench = bench();
+    let mut wide = scp::example::image_a();
+    wide[9] = 8;
+    let bad: [(&[u8], &str); 5] = [
+        (b"", "refused 1 "),
+        (b"SCP", "refused 1 "),
+        (&[0; 688], "refused 2 "),
+        (&wide, "refused 3 "),
+        (&scp::example::image_a()[..711], "refused 11 "),
+    ];
+    for (bytes, refusal) in bad {
+        bench.put("bad.scp", bytes);
+        for line in lines("bad.scp") {
+            let run = bench.run(&line);
+            let status = if line.starts_with("replay") { 0 } else { 1 };
+            assert!(run.status == status && (run.out.clone() + &run.err).contains(refusal), "{line}: {run:?}");
+        }
+    }
+    assert_eq!(bench.get("out.scp"), bench.get("bad.scp"));
+    assert!(!bench.path("out.svg").exists());
+}
+
+#[test]
+fn a_wrong_command_line_gives_2() {
+    let bench = bench();
+    let names = bench.names();
+    for line in lines("a.scp") {
+        let name = line.split(' ').next().unwrap_or_default();
+        let hint = format!("; see \"fluxproof help {name}\"");
+        bench.fails(name, 2, &format!("{name}: FILE is missing{hint}"));
+        bench.fails(&format!("{line} --frobnicate"), 2, &format!("unknown option \"--frobnicate\"{hint}"));
+        if name != "validate" {
+            bench.fails(&format!("{line} one two"), 2, &format!("{name}: unexpected argument \"one\" after "));
+        }
+    }
+    assert_eq!(bench.names(), names);
+}
+
+#[test]
+fn a_closed_pipe_is_no_failure() {
+    let bench = bench();
+    let words = vec![160; 100_000];
+    bench.put("big.scp", &image(1, &[(0, &[(8_000_000, &words)])]));
+    bench.put("bad.scp", &damaged_a());
+    let help = ["--help", "--version", "help patch"].map(String::from);
+    for line in lines("big.scp").chain(lines("a.scp")).chain(help).chain(["list bad.scp".to_string()]) {
+        let (reader, writer) = std::io::pipe().expect("a pipe");
+        drop(reader);
+        let run = Run::of(bench.command(&line).stdout(writer).output().expect("the command runs"));
+        assert_eq!((run.status, run.err.as_str()), (i32::from(line == "list bad.scp"), ""), "{line}");
+    }
+}
+
+#[cfg(target_os = "linux")]
+#[test]
+fn a_full_standard_output_gives_3() {
+    let bench = bench();
+    bench.put("bad.scp", &damaged_a());
+    let others = ["--help", "--version", "help patch", "list bad.scp", "validate none.scp"].map(String::from);
+    for line in lines("a.scp").chain(others) {
+        let full = OpenOptions::new().write(true).open("/dev/full").expect("the full device");
+        let run = Run::of(bench.command(&line).stdout(full).output().expect("the command runs"));
+        let message = "fluxproof: standard output: No space left on device (os error 28)\n";
+        assert_eq!((run.status, run.err.as_str()), (3, message), "{line}");
+    }
+}
+
+/// Runs a line of the shell in the folder, in which "$0" is the command.
+#[cfg(unix)]
+fn shell(bench: &Bench, program: &str, options: &[&str], script: &str) -> Run {
+    let mut shell = Command::new(program);
+    shell.args(options).args(["-c", script, env!("CARGO_BIN_EXE_fluxproof")]).current_dir(&bench.folder);
+    Run::of(shell.stdin(Stdio::null()).output().expect("a shell"))
+}
+
+#[cfg(unix)]
+#[test]
+fn a_file_that_grows_too_long_changes_nothing() {
+    let bench = bench();
+    bench.put("out.scp", b"precious");
+    bench.put("out.svg", b"precious");
+    let names = bench.names();
+    let in_place = ["patch a.scp a.scp 0 0 --duration 1 --words words.bin --in-place", "replay a.scp calls.txt --out a.scp --in-place"];
+    let fresh = ["patch a.scp new.scp 0 0 --duration 1 --words words.bin --undo undo.txt", "plot a.scp 0 0 new.svg"];
+    let writing = LINES[4..].iter().map(|line| line.replace("FILE", "a.scp"));
+    for line in writing.chain(in_place.map(String::from)).chain(fresh.map(String::from)) {
+        let run = shell(&bench, "sh", &[], &format!("trap '' XFSZ; ulimit -f 1; exec \"$0\" {line}"));
+        assert!(run.status == 3 && run.err.contains(": cannot be written: File too large"), "{line}: {run:?}");
+        assert_eq!((bench.get("out.scp"), bench.get("out.svg")), (b"precious".to_vec(), b"precious".to_vec()), "{line}");
+        assert_eq!((bench.get("a.scp"), bench.names()), (scp::example::image_a(), names.clone()), "{line}");
+    }
+}
+
+#[cfg(unix)]
+#[test]
+fn an_undo_file_that_grows_too_long_changes_nothing() {
+    let bench = bench();
+    let words = [160; 150];
+    let small = image(1, &[(0, &[(8_000_000, &words)])]);
+    bench.put("a.scp", &small);
+    let (names, out) = (bench.names(), "o".repeat(150));
+    // The image has less than 1024 bytes, the text to undo has more.
+    let line = format!("patch a.scp {out} 0 0 --duration keep --words words.bin --undo undo.txt");
+    let run = shell(&bench, "sh", &[], &format!("trap '' XFSZ; ulimit -f 2; exec \"$0\" {line}"));
+    assert!(run.status == 3 && run.err.contains("undo.txt: cannot be written: File too large"), "{run:?}");
+    assert_eq!((bench.get("a.scp"), bench.names()), (small, names));
+}
+
+#[cfg(target_os = "linux")]
+#[test]
+fn a_full_disk_changes_nothing() {
+    let bench = bench();
+    std::fs::create_dir(bench.path("full")).expect("a folder");
+    let script = "mount -t tmpfs -o size=4k none full 2>/dev/null || exit 99
+        printf precious > full/old
+        \"$0\" patch a.scp full/old 0 0 --duration 1 --words words.bin --force; echo $?
+        \"$0\" replay a.scp calls.txt --out full/old --force > /dev/null; echo $?
+        \"$0\" plot a.scp 0 0 full/old --force; echo $?
+        \"$0\" patch a.scp full/new 0 0 --duration 1 --words words.bin --undo undo.txt; echo $?
+        \"$0\" patch a.scp new.scp 0 0 --duration 1 --words words.bin --undo full/undo.txt; echo $?
+        ls -A full; cat full/old";
+    let run = shell(&bench, "unshare", &["-rm", "sh"], script);
+    // Where mounting is not allowed, the limit on the size of files is all that is tested.
+    if run.status == 0 {
+        assert_eq!(run.out, "3\n3\n3\n3\n3\nold\nprecious", "{run:?}");
+        assert_eq!(run.err.matches(": cannot be written: No space left on device").count(), 5, "{run:?}");
+        assert_eq!(bench.names(), ["a.scp", "calls.txt", "full", "words.bin"]);
+    } else {
+        println!("no disk can be mounted: {run:?}");
+    }
+}
