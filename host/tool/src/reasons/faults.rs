@@ -164,9 +164,13 @@ impl Search<'_> {
         if start <= end && end < TRACKS && !(start..=end).contains(&track) {
             self.note_at(Reason::Slot, track, format!("track {track} has an entry, but the tracks are {start} to {end}"));
         }
-        let (side, held) = (track % 2, u32::from(header.heads.wrapping_sub(1)));
-        if held < 2 && side != held {
-            self.note_at(Reason::Slot, track, format!("track {track} has an entry, but only side {held} is held (heads {})", held + 1));
+        let held = match header.heads {
+            1 => 0,
+            2 => 1,
+            _ => return,
+        };
+        if track % 2 != held {
+            self.note_at(Reason::Slot, track, format!("track {track} has an entry, but only side {held} is held (heads {})", header.heads));
         }
     }
 
