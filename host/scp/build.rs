@@ -9,7 +9,7 @@ use std::time::SystemTime;
 
 const ARCHIVE: &str = "libscp_c.a";
 
-/// Beside an archive that was built here: the identity of the toolchain that built it.
+/// Beside an archive: the identity of the toolchain that built it, as `rt version` prints it.
 const IDENTITY: &str = "libscp_c.toolchain";
 
 fn main() {
@@ -32,11 +32,17 @@ fn main() {
 /// The folder that the variable names, and the identity beside its archive, which may be renewed at any time.
 fn named_archive(folder: PathBuf) -> (PathBuf, String) {
     println!("cargo:rerun-if-changed={}", folder.join(ARCHIVE).display());
-    let toolchain = std::fs::read_to_string(folder.join(IDENTITY));
-    (folder, toolchain.unwrap_or_else(|_| "unknown (the archive is one that SCP_ARCHIVE_DIR names)".to_string()))
+    println!("cargo:rerun-if-changed={}", folder.join(IDENTITY).display());
+    let toolchain = identity(&folder).unwrap_or("unknown (nothing beside the archive of SCP_ARCHIVE_DIR says it)".to_string());
+    (folder, toolchain)
 }
 
-/// The folder of the archive that `rt` builds, and the identity of `rt`: as it is where no source is newer, else renewed.
+/// The identity beside the archive in a folder.
+fn identity(folder: &Path) -> Option<String> {
+    Some(std::fs::read_to_string(folder.join(IDENTITY)).ok()?.trim().to_string())
+}
+
+/// The folder of the archive that `rt` builds, and the identity of `rt`: as it is where this `rt` built it of these sources, else renewed.
 fn built_archive() -> (PathBuf, String) {
     let manifest = std::env::var("CARGO_MANIFEST_DIR").expect("cargo names the package's folder");
     let root = Path::new(&manifest).join("../..");
@@ -44,13 +50,15 @@ fn built_archive() -> (PathBuf, String) {
     for crate_name in library_crates(&root) {
         sources.extend(["src", "specs", "proofs"].map(|part| root.join("crates").join(&crate_name).join(part)));
     }
+    // A crate need not have all parts, and cargo takes a source that is not there for changed.
+    sources.retain(|source| source.exists());
     for source in &sources {
         println!("cargo:rerun-if-changed={}", source.display());
     }
     let folder = root.join("target").join("staticlib");
     let built = changed(&folder.join(ARCHIVE));
     let toolchain = rt(&root, &["version"]).trim().to_string();
-    let other = std::fs::read_to_string(folder.join(IDENTITY)).is_ok_and(|builder| builder != toolchain);
+    let other = identity(&folder).is_none_or(|builder| builder != toolchain);
     if built.is_none() || other || sources.iter().any(|source| newest(source) > built) {
         // It takes minutes from nothing, and half a minute where all is proved.
         rt(&root, &["staticlib", "scp_c"]);

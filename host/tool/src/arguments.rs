@@ -40,6 +40,9 @@ impl Arguments {
                 Some("--help" | "-h") => return Ok(None),
                 Some("--") => arguments.operands.extend(words.by_ref()),
                 Some(option) if option.starts_with('-') && option != "-" => arguments.option(command, option, &mut words)?,
+                None if word.as_encoded_bytes().starts_with(b"-") => {
+                    return Err(Failure::usage(format!("\"{}\" is not UTF-8: give a value as a word of its own", shown(&word))));
+                }
                 _ => arguments.operands.push(word),
             }
         }

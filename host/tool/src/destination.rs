@@ -7,8 +7,9 @@ use std::path::{Path, PathBuf};
 
 use crate::arguments::Arguments;
 use crate::failure::Failure;
-use crate::files::{identity, shown, Identity, Input};
+use crate::files::{shown, Input};
 use crate::signals::{self, Registered};
+use crate::stamp::Stamp;
 
 /// How many names are tried for a temporary file.
 const ATTEMPTS: u32 = 1000;
@@ -32,6 +33,8 @@ pub struct Destination {
     old: Option<Metadata>,
     /// The permissions that it gets, if not those of any new file.
     permissions: Option<Permissions>,
+    /// What it must still be when it is replaced: the image as it was read.
+    unchanged: Option<Stamp>,
 }
 
 impl Destination {
@@ -46,7 +49,7 @@ impl Destination {
         let read = inputs.iter().position(|input| found.is(input));
         match (read, kind) {
             (Some(0), _) if in_place => {}
-            _ if in_place => return refuse("--in-place is given, but this is not the image"),
+            _ if in_place => return refuse("--in-place is given, but this is not the image that was read"),
             (Some(0), Kind::Image) => return refuse("this is the image itself; --in-place replaces it"),
             (Some(0), Kind::Drawing) => return refuse("this is the image itself"),
             (Some(_), _) => return refuse("the command reads this file, so it is not replaced"),
@@ -54,7 +57,9 @@ impl Destination {
             (None, _) => {}
         }
         let image = inputs.first().filter(|_| kind == Kind::Image);
-        found.destination(out, image.and_then(|image| image.permissions()))
+        let mut destination = found.destination(out, image.map(|image| image.permissions()))?;
+        destination.unchanged = image.filter(|_| in_place).and_then(|image| image.stamp.clone());
+        Ok(destination)
     }
 
     /// A file that must not be there yet, beside this one; it has the permissions of the image.
@@ -66,7 +71,7 @@ impl Destination {
         if found.file.is_some() {
             return Err(Failure::file(format!("{}: it exists already, and is never replaced", shown(out))));
         }
-        found.destination(out, image.permissions())
+        found.destination(out, Some(image.permissions()))
     }
 
     /// Writes the bytes to a temporary file in the folder, and to the disk.
@@ -91,6 +96,12 @@ impl Destination {
         Ok(temporary)
     }
 
+    /// Whether the image that it replaces is still as it was read.
+    fn is_unchanged(&self) -> bool {
+        let now = || Stamp::of(&self.path, &fs::metadata(&self.path)?);
+        self.unchanged.as_ref().is_none_or(|read| now().is_ok_and(|now| now == *read))
+    }
+
     /// The failure to write it.
     fn unwritten(&self, error: io::Error) -> Failure {
         Failure::file(format!("{}: cannot be written: {error}", self.name))
@@ -102,7 +113,7 @@ struct Found {
     /// The path, once links are followed.
     path: PathBuf,
     /// The regular file that is there.
-    file: Option<(Metadata, Identity)>,
+    file: Option<(Metadata, Stamp)>,
 }
 
 impl Found {
@@ -115,8 +126,8 @@ impl Found {
         }
         let real = fs::canonicalize(&path).and_then(|real| Ok((fs::metadata(&real)?, real)));
         match real {
-            Ok((file, real)) if file.is_file() => match identity(&real, &file) {
-                Ok(identity) => Ok(Found { path: real, file: Some((file, identity)) }),
+            Ok((file, real)) if file.is_file() => match Stamp::of(&real, &file) {
+                Ok(stamp) => Ok(Found { path: real, file: Some((file, stamp)) }),
                 Err(error) => refuse(&error.to_string()),
             },
             Ok(_) => refuse("this is not a regular file"),
@@ -127,8 +138,8 @@ impl Found {
 
     /// Whether this is the file that an input was read from.
     fn is(&self, input: &Input) -> bool {
-        match (&self.file, &input.origin) {
-            (Some((_, found)), Some((read, _))) => found == read,
+        match (&self.file, &input.stamp) {
+            (Some((_, found)), Some(read)) => found.is_of_same_file(read),
             _ => false,
         }
     }
@@ -137,7 +148,7 @@ impl Found {
     fn destination(self, out: &OsStr, permissions: Option<Permissions>) -> Result<Destination, Failure> {
         let (name, path, old) = (shown(out), self.path, self.file.map(|(file, _)| file));
         let permissions = match &old {
-            None => permissions,
+            None => permissions.map(plain),
             Some(old) if old.permissions().readonly() => {
                 return Err(Failure::file(format!("{name}: it is write-protected, so it is not replaced")));
             }
@@ -146,7 +157,7 @@ impl Found {
                 Err(error) => return Err(Failure::file(format!("{name}: it may not be written, so it is not replaced: {error}"))),
             },
         };
-        Ok(Destination { name, path, old, permissions })
+        Ok(Destination { name, path, old, permissions, unchanged: None })
     }
 }
 
@@ -160,6 +171,9 @@ impl Staged {
     /// Gives the result its name.
     pub fn commit(self) -> Result<(), Failure> {
         let Staged { destination, temporary } = self;
+        if !destination.is_unchanged() {
+            return Err(Failure::file(format!("{}: it was changed meanwhile, so it is not replaced", destination.name)));
+        }
         let renamed = temporary.rename(&destination.path, destination.old.is_some());
         renamed.map_err(|error| destination.unwritten(error))?;
         // The file is whole under its name; not every system can sync a folder.
@@ -191,6 +205,19 @@ fn folder(path: &Path) -> &Path {
 fn place(path: &Path) -> (PathBuf, Option<&OsStr>) {
     let folder = folder(path);
     (fs::canonicalize(folder).unwrap_or(folder.to_path_buf()), path.file_name())
+}
+
+/// Permissions without those that let a program run as its owner or group.
+#[cfg(unix)]
+fn plain(permissions: Permissions) -> Permissions {
+    use std::os::unix::fs::PermissionsExt;
+    Permissions::from_mode(permissions.mode() & 0o777)
+}
+
+/// Permissions as they are: here none lets a program run as its owner.
+#[cfg(not(unix))]
+fn plain(permissions: Permissions) -> Permissions {
+    permissions
 }
 
 /// Gives a file the owner and the group of the one that it replaces.

@@ -1,6 +1,6 @@
-//! How a command ends without success, and standard output that a closed pipe does not disturb.
+//! How a command ends without success.
 
-use std::io::{self, BufWriter, StdoutLock, Write};
+use std::io;
 
 /// Why a command ends without success; the exit status is the discriminant.
 #[derive(Clone, Copy, Debug, PartialEq, Eq, PartialOrd, Ord)]
@@ -45,30 +45,4 @@ impl From<io::Error> for Failure {
     fn from(error: io::Error) -> Failure {
         Failure::file(format!("standard output: {error}"))
     }
-}
-
-/// A writer that takes everything quietly once nobody reads any more.
-pub struct Quiet<W: Write>(W);
-
-impl<W: Write> Write for Quiet<W> {
-    fn write(&mut self, bytes: &[u8]) -> io::Result<usize> {
-        unless_closed(self.0.write(bytes), bytes.len())
-    }
-
-    fn flush(&mut self) -> io::Result<()> {
-        unless_closed(self.0.flush(), ())
-    }
-}
-
-/// The result, but for a closed pipe what is given.
-fn unless_closed<T>(result: io::Result<T>, given: T) -> io::Result<T> {
-    match result {
-        Err(error) if error.kind() == io::ErrorKind::BrokenPipe => Ok(given),
-        other => other,
-    }
-}
-
-/// Standard output, locked and buffered.
-pub fn standard_output() -> BufWriter<Quiet<StdoutLock<'static>>> {
-    BufWriter::with_capacity(1 << 16, Quiet(io::stdout().lock()))
 }

@@ -1,7 +1,7 @@
 //! Files, read whole and once.
 
 use std::ffi::OsStr;
-use std::fs::{File, Metadata, Permissions};
+use std::fs::{self, File, Metadata, Permissions};
 use std::io::{self, Read};
 use std::path::Path;
 
@@ -9,14 +9,28 @@ use scp::Refusal;
 
 use crate::failure::Failure;
 use crate::reasons::{self, Asked};
+use crate::stamp::Stamp;
+use crate::streams;
 
 /// The greatest image; a longer file is read to one byte more, so that it is refused.
 pub const GREATEST: u64 = scp::LONGEST_IMAGE as u64;
 
-/// A name as it can be shown on one line.
+/// A name as it can be shown on one line; what does not print, and bytes that are not UTF-8, are escaped.
 pub fn shown(name: impl AsRef<OsStr>) -> String {
-    let escape = |letter: char| if letter.is_control() { letter.escape_default().to_string() } else { letter.to_string() };
-    name.as_ref().to_string_lossy().chars().map(escape).collect()
+    let mut text = String::new();
+    for chunk in name.as_ref().as_encoded_bytes().utf8_chunks() {
+        for letter in chunk.valid().chars() {
+            match letter {
+                '\u{200B}'..='\u{200F}' | '\u{2028}'..='\u{202E}' | '\u{2060}'..='\u{206F}' | '\u{FEFF}' => {
+                    text.extend(letter.escape_unicode())
+                }
+                _ if letter.is_control() => text.extend(letter.escape_default()),
+                _ => text.push(letter),
+            }
+        }
+        text.extend(chunk.invalid().iter().map(|byte| format!("\\x{byte:02X}")));
+    }
+    text
 }
 
 /// A file read whole.
@@ -25,21 +39,32 @@ pub struct Input {
     pub name: String,
     /// Its bytes, at most one more than the greatest image has.
     pub bytes: Vec<u8>,
-    /// Where it comes from, if the system can say so.
-    pub origin: Option<Origin>,
+    /// What it was to the system before it was read.
+    metadata: Metadata,
+    /// Which file it was, if the system can say so.
+    pub stamp: Option<Stamp>,
+    /// The file itself: while it is open, no other file can have its identity, and a lock holds.
+    _file: File,
 }
-
-/// What a file is to the system, and who may use it.
-pub type Origin = (Identity, Permissions);
 
 impl Input {
     /// Reads a file, or standard input where it is named "-"; else says why not, with its name.
     pub fn try_read(file: &OsStr) -> Result<Input, String> {
+        Input::read_whole(file, false)
+    }
+
+    /// The same; with a lock where the file is to be replaced.
+    fn read_whole(file: &OsStr, lock: bool) -> Result<Input, String> {
         let name = if file == "-" { "standard input".to_string() } else { shown(file) };
-        match read_whole(file) {
-            Ok((bytes, origin)) => Ok(Input { name, bytes, origin }),
-            Err(error) => Err(format!("{name}: {error}")),
-        }
+        let read = || {
+            let (opened, mut bytes) = (open(file, lock)?, Vec::new());
+            let metadata = opened.metadata()?;
+            bytes.try_reserve(metadata.len().min(GREATEST) as usize + 1)?;
+            (&opened).take(GREATEST + 1).read_to_end(&mut bytes)?;
+            let stamp = Stamp::of(Path::new(file), &metadata).ok();
+            Ok(Input { name: name.clone(), bytes, metadata, stamp, _file: opened })
+        };
+        read().map_err(|error: io::Error| format!("{name}: {error}"))
     }
 
     /// Reads a file, or standard input where it is named "-".
@@ -47,12 +72,12 @@ impl Input {
         Input::try_read(file).map_err(Failure::file)
     }
 
-    /// Reads an image that is to be written again, so not from standard input.
-    pub fn read_file(file: &OsStr) -> Result<Input, Failure> {
+    /// Reads an image that is to be written again, so not from standard input; with a lock where it is to be replaced.
+    pub fn read_image(file: &OsStr, lock: bool) -> Result<Input, Failure> {
         if file == "-" {
             return Err(Failure::usage("the image cannot come from standard input (a file of that name is ./-)"));
         }
-        Input::read(file)
+        Input::read_whole(file, lock).map_err(Failure::file)
     }
 
     /// Reads a file of lines or words; what is read of a longer one than the greatest image would not be all.
@@ -69,8 +94,21 @@ impl Input {
     }
 
     /// Who may use it.
-    pub fn permissions(&self) -> Option<Permissions> {
-        self.origin.as_ref().map(|(_, permissions)| permissions.clone())
+    pub fn permissions(&self) -> Permissions {
+        self.metadata.permissions()
+    }
+
+    /// Whether it can be read again.
+    pub fn is_regular(&self) -> bool {
+        self.metadata.is_file()
+    }
+
+    /// A copy of the bytes, if there is memory for them.
+    pub fn copy(&self) -> Result<Vec<u8>, Failure> {
+        let mut copy = Vec::new();
+        copy.try_reserve_exact(self.bytes.len()).map_err(|error| Failure::file(format!("{}: {error}", self.name)))?;
+        copy.extend_from_slice(&self.bytes);
+        Ok(copy)
     }
 
     /// The library's answer to a question about this image, or its refusal as a failure.
@@ -119,51 +157,23 @@ fn is_space(letter: char) -> bool {
     letter.is_whitespace() || letter == '\u{FEFF}'
 }
 
-/// The bytes of a file, to one more than the greatest image has, and its origin.
-fn read_whole(file: &OsStr) -> io::Result<(Vec<u8>, Option<Origin>)> {
-    let mut bytes = Vec::new();
-    if file == "-" {
-        io::stdin().lock().take(GREATEST + 1).read_to_end(&mut bytes)?;
-        return Ok((bytes, origin_of_standard_input()));
+/// The file of a name, or standard input where that is "-"; opened so that nobody else replaces it where that is asked for.
+fn open(file: &OsStr, lock: bool) -> io::Result<File> {
+    match (file == "-", lock) {
+        (true, _) => streams::standard_input(),
+        (false, false) => File::open(file),
+        (false, true) => open_locked(Path::new(file)),
     }
-    let opened = File::open(file)?;
-    let metadata = opened.metadata()?;
-    bytes.try_reserve(metadata.len().min(GREATEST) as usize + 1)?;
-    opened.take(GREATEST + 1).read_to_end(&mut bytes)?;
-    Ok((bytes, Some((identity(Path::new(file), &metadata)?, metadata.permissions()))))
 }
 
-/// The origin of standard input, which may be a file.
-#[cfg(unix)]
-fn origin_of_standard_input() -> Option<Origin> {
-    let file = File::from(std::os::fd::AsFd::as_fd(&io::stdin()).try_clone_to_owned().ok()?);
-    let metadata = file.metadata().ok()?;
-    Some((identity(Path::new("-"), &metadata).ok()?, metadata.permissions()))
-}
-
-/// The origin of standard input, which is not known.
-#[cfg(not(unix))]
-fn origin_of_standard_input() -> Option<Origin> {
-    None
-}
-
-/// What makes a file the same under another name: device and inode.
-#[cfg(unix)]
-pub type Identity = (u64, u64);
-
-/// What makes a file the same under another name: its path once links are followed.
-#[cfg(not(unix))]
-pub type Identity = std::path::PathBuf;
-
-/// The identity of a file.
-#[cfg(unix)]
-pub fn identity(_path: &Path, metadata: &Metadata) -> io::Result<Identity> {
-    use std::os::unix::fs::MetadataExt;
-    Ok((metadata.dev(), metadata.ino()))
-}
-
-/// The identity of a file.
-#[cfg(not(unix))]
-pub fn identity(path: &Path, _metadata: &Metadata) -> io::Result<Identity> {
-    std::fs::canonicalize(path)
+/// Opens a file that is to be replaced; whoever does the same waits until it is, and then opens the new one.
+fn open_locked(path: &Path) -> io::Result<File> {
+    loop {
+        let file = File::open(path)?;
+        // Where the system has no locks, the stamps still tell of a change.
+        let _ = file.lock();
+        if Stamp::of(path, &file.metadata()?)? == Stamp::of(path, &fs::metadata(path)?)? {
+            return Ok(file);
+        }
+    }
 }

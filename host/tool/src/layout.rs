@@ -14,8 +14,26 @@ const FOOTER_SIZE: usize = 48;
 /// How many bytes an image with a footer has at least.
 pub const LEAST_WITH_FOOTER: usize = TABLE_END + FOOTER_SIZE;
 
+/// The most revolutions of a track.
+pub const MOST_REVOLUTIONS: u8 = 5;
+
+/// The four bytes that close a footer.
+pub const FOOTER_SIGN: [u8; 4] = *b"FPCS";
+
 /// The bit of FLAGS that announces a footer.
 const FOOTER_FLAG: u8 = 0x20;
+
+/// What stands where a track data header is to be.
+pub enum TrackHeader {
+    /// One of a track.
+    Of(u8),
+    /// None: it would start before the end of the table.
+    TooLow,
+    /// None: it would end past the end, at this offset.
+    TooHigh(u64),
+    /// Other bytes than "TRK".
+    Other([u8; 3]),
+}
 
 /// The bytes of any file, read as those of an image.
 #[derive(Clone, Copy)]
@@ -55,10 +73,10 @@ impl<'a> Layout<'a> {
         self.header().is_some_and(|header| header.flags & FOOTER_FLAG != 0)
     }
 
-    /// Where tracks, flux and strings must have ended: before the footer where one is announced and has room.
+    /// Where tracks, flux and strings must have ended: before the footer where one is announced.
     pub fn end(self) -> u64 {
-        let size = self.0.len();
-        (if self.has_footer() && size >= LEAST_WITH_FOOTER { size - FOOTER_SIZE } else { size }) as u64
+        let footer = if self.has_footer() { FOOTER_SIZE } else { 0 };
+        self.0.len().saturating_sub(footer) as u64
     }
 
     /// The last bytes of the file, if FLAGS announces a footer and it has room; and the four bytes that close it.
@@ -83,15 +101,30 @@ impl<'a> Layout<'a> {
         (0..).zip(entries).filter(|&(_, entry)| entry != 0)
     }
 
-    /// How many bytes each track data header has.
-    pub fn track_header_size(self) -> u64 {
-        4 + 12 * u64::from(self.header().map_or(0, |header| header.revolutions))
+    /// The revolutions of each track; none where their number is refused, since it cannot be told then where the records end.
+    pub fn revolutions(self) -> u32 {
+        let stored = self.header().map_or(0, |header| header.revolutions);
+        if stored <= MOST_REVOLUTIONS {
+            stored.into()
+        } else {
+            0
+        }
     }
 
-    /// Whether a whole track data header is at an offset, of whatever track.
-    pub fn is_track_header(self, offset: u64) -> bool {
-        let size = self.track_header_size();
-        offset >= TABLE_END as u64 && offset + size <= self.end() && self.array(offset) == Some(*b"TRK")
+    /// How many bytes each track data header has.
+    pub fn track_header_size(self) -> u64 {
+        4 + 12 * u64::from(self.revolutions())
+    }
+
+    /// What stands where the table has a track data header.
+    pub fn track_header(self, entry: u64) -> TrackHeader {
+        let past = entry + self.track_header_size();
+        match self.array(entry) {
+            _ if entry < TABLE_END as u64 => TrackHeader::TooLow,
+            Some([b'T', b'R', b'K', track]) if past <= self.end() => TrackHeader::Of(track),
+            Some([sign @ .., _]) if past <= self.end() => TrackHeader::Other(sign),
+            _ => TrackHeader::TooHigh(past),
+        }
     }
 
     /// Where the track data header at an offset has the record of a revolution.

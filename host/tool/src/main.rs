@@ -20,6 +20,8 @@ mod show;
 #[allow(unsafe_code)]
 #[cfg_attr(not(unix), path = "signals_elsewhere.rs")]
 mod signals;
+mod stamp;
+mod streams;
 mod times;
 mod undo;
 mod validate;
@@ -54,15 +56,7 @@ const HELP: &str = include_str!("help/fluxproof.txt");
 /// Runs the command line; the exit status is 0 for success, else that of the failure.
 fn main() -> ExitCode {
     let words: Vec<OsString> = std::env::args_os().skip(1).collect();
-    let mut out = failure::standard_output();
-    let ended = run(words, &mut out);
-    let flushed = out.flush().map_err(Failure::from);
-    // What standard output says of a failure is not said where it cannot be written.
-    let ended = match ended {
-        Err(told @ Failure::Told(..)) => Err(told),
-        said => flushed.and(said),
-    };
-    match ended {
+    match run(words) {
         Ok(()) => ExitCode::SUCCESS,
         Err(Failure::Said(status)) => ExitCode::from(status as u8),
         Err(Failure::Told(status, message)) => complain(&message, status),
@@ -76,8 +70,19 @@ fn complain(message: &str, status: Status) -> ExitCode {
     ExitCode::from(status as u8)
 }
 
+/// Does what the words ask for; what standard output says of a failure is not said where it cannot be written.
+fn run(words: Vec<OsString>) -> Result<(), Failure> {
+    let mut out = streams::standard_output()?;
+    let ended = obey(words, &mut out);
+    let flushed = out.flush().map_err(Failure::from);
+    match ended {
+        Err(told @ Failure::Told(..)) => Err(told),
+        said => flushed.and(said),
+    }
+}
+
 /// Finds what the first word asks for, and does it.
-fn run(mut words: Vec<OsString>, out: &mut dyn Write) -> Result<(), Failure> {
+fn obey(mut words: Vec<OsString>, out: &mut dyn Write) -> Result<(), Failure> {
     if words.is_empty() {
         return Err(Failure::usage("no command is given; see \"fluxproof --help\""));
     }

@@ -3,14 +3,16 @@
 use std::ffi::OsStr;
 use std::io::{self, Write};
 
+use scp::Reason;
+
 use crate::arguments::{number_of, place_of, Arguments, Command};
 use crate::checksum::{say_change, Checksum};
 use crate::destination::{Destination, Kind};
 use crate::failure::Failure;
 use crate::files::{shown, Input};
-use crate::reasons::Asked;
+use crate::reasons::{self, Asked};
 use crate::times::{words_of_times, Unit};
-use crate::undo::Change;
+use crate::undo::{kept, Change};
 
 /// The command.
 pub const COMMAND: Command = Command {
@@ -34,8 +36,8 @@ fn run(arguments: &Arguments, out: &mut dyn Write) -> Result<(), Failure> {
     let [file, target, track, revolution] = arguments.operands(["FILE", "OUT", "TRACK", "REV"])?;
     let (track, revolution) = place_of(track, revolution)?;
     let (duration, (form, source), undo) = (duration(arguments)?, Form::of(arguments)?, arguments.value("--undo"));
-    let mut input = Input::read_file(file)?;
     let source = Input::read_all(source)?;
+    let mut input = Input::read_image(file, arguments.has("--in-place"))?;
     let destination = Destination::new(target, &[&input, &source], arguments, Kind::Image)?;
     let undo = undo.map(|undo| destination.fresh(undo, &input)).transpose()?;
     let old = input.ask_of((track, revolution), scp::revolution)?;
@@ -48,25 +50,27 @@ fn run(arguments: &Arguments, out: &mut dyn Write) -> Result<(), Failure> {
     let former = input.ask_of((track, revolution), scp::flux)?.to_vec();
     let before = input.ask(Checksum::of)?;
     let done = scp::rewrite(&mut input.bytes, track, revolution, duration.1, &words);
-    done.map_err(|refusal| input.refused(Asked { track, revolution, size: words.len() }, refusal))?;
+    done.map_err(|refusal| {
+        let told = reasons::of_asked(&input.bytes, Asked { track, revolution, size: words.len() }, refusal);
+        (if refusal.reason == Reason::Words { &source } else { &input }).failure(told)
+    })?;
     let after = input.ask(Checksum::of)?;
+    let undo = match undo {
+        Some(undo) => Some(undo.stage(change.undo(&former, &input.name, &shown(target))?.as_bytes())?),
+        None => None,
+    };
     let staged = destination.stage(&input.bytes)?;
     match undo {
-        Some(undo) => staged.commit_after(undo.stage(change.undo(&former, &input.name, &shown(target))?.as_bytes())?)?,
+        Some(undo) => staged.commit_after(undo)?,
         None => staged.commit()?,
     }
     writeln!(out, "track {track} revolution {revolution} of {} rewritten in {}", input.name, shown(target))?;
-    say(out, &change, &kept(arguments, &input))?;
-    Ok(say_change(out, &before, &after)?)
-}
-
-/// Where the former words are.
-fn kept(arguments: &Arguments, input: &Input) -> String {
-    match arguments.value("--undo") {
+    let kept = match arguments.value("--undo") {
         Some(undo) => format!("are in {}", shown(undo)),
-        None if arguments.has("--in-place") => "were not kept".to_string(),
-        None => format!("are still in {}", input.name),
-    }
+        None => kept(arguments, &input),
+    };
+    say(out, &change, &kept)?;
+    Ok(say_change(out, &before, &after)?)
 }
 
 /// Says what changed, and what cannot be taken back.

@@ -44,7 +44,7 @@ pub fn of_asked(image: &[u8], asked: Asked, refusal: Refusal) -> String {
 /// A refusal of a time.
 pub fn of_time(ticks: u64, refusal: Refusal) -> String {
     let text = match ticks {
-        0 => "0 ticks".to_string(),
+        0 => "0 ticks, where 1 is the least".to_string(),
         _ if ticks > u64::from(u32::MAX) => format!("{} ticks, above {}", grouped(ticks), grouped(u32::MAX.into())),
         _ => format!("{} ticks, a multiple of {}, which no word closes", grouped(ticks), grouped(ZERO_WORD_TICKS)),
     };
@@ -75,7 +75,7 @@ fn absent(image: &[u8], track: u32) -> Option<String> {
 
 /// Why a revolution is not there.
 fn revolutions(image: &[u8], asked: Asked) -> Option<String> {
-    let most = u64::from(Layout(image).header()?.revolutions);
+    let most = u64::from(Layout(image).revolutions());
     Some(format!("revolution {} of track {}: a track has {}, from 0 on", asked.revolution, asked.track, counted(most, "revolution")))
 }
 
@@ -148,6 +148,14 @@ mod tests {
             let refused = scp::words(&[ticks], &mut vec![0; 1 << 18]).err();
             let due = ticks == 0 || ticks.is_multiple_of(ZERO_WORD_TICKS) || ticks > u64::from(u32::MAX);
             assert_eq!(refused.map(|refusal| refusal.reason), due.then_some(Reason::Time), "{ticks}");
+        }
+        for (ticks, said) in [
+            (0, "0 ticks, where 1 is the least"),
+            (131_072, "131,072 ticks, a multiple of 65,536, which no word closes"),
+            (4_294_967_296, "4,294,967,296 ticks, above 4,294,967,295"),
+        ] {
+            let refusal = scp::words(&[ticks], &mut [0; 8]).expect_err("it is refused");
+            assert_eq!(of_time(ticks, refusal), format!("refused 16 Time: {said}"));
         }
     }
 }

@@ -7,10 +7,11 @@ use scp::{Answer, Call};
 use crate::arguments::{Arguments, Command};
 use crate::checksum::{say_change, Checksum};
 use crate::destination::{Destination, Kind};
-use crate::failure::Failure;
+use crate::failure::{Failure, Status};
 use crate::files::{shown, Input};
 use crate::numbers::number;
 use crate::reasons::{self, Asked};
+use crate::undo::{kept, Change};
 
 /// The command.
 pub const COMMAND: Command =
@@ -25,8 +26,8 @@ fn run(arguments: &Arguments, out: &mut dyn Write) -> Result<(), Failure> {
             return Err(Failure::usage(format!("{flag} is for --out, which is missing")));
         }
     }
-    let mut input = Input::read_file(file)?;
     let text = Input::read_all(calls)?;
+    let mut input = Input::read_image(file, arguments.has("--in-place"))?;
     let destination = match target {
         Some(target) => Some(Destination::new(target, &[&input, &text], arguments, Kind::Image)?),
         None => None,
@@ -36,21 +37,35 @@ fn run(arguments: &Arguments, out: &mut dyn Write) -> Result<(), Failure> {
     }
     let (lines, calls) = read_calls(&text)?;
     let before = Checksum::of(&input.bytes);
-    let mut image = input.bytes.clone();
+    let mut image = input.copy()?;
     let answers = scp::replay(&mut input.bytes, &calls);
+    let (mut refused, mut unmade, mut shorter) = (false, false, Vec::new());
     for ((line, call), answer) in lines.iter().zip(&calls).zip(answers) {
+        refused |= answer.is_err();
+        unmade |= answer.is_err() && matches!(call, Call::Rewrite { .. });
         let answer = answer.map_or_else(|refusal| reasons::of_asked(&image, asked(call), refusal), say_answer);
         writeln!(out, "{line}: {}: {answer}", say_call(call))?;
-        follow(&mut image, call);
+        if follow(&mut image, call) {
+            shorter.push(line);
+        }
     }
     if let (Some(destination), Some(target)) = (destination, target) {
+        if unmade {
+            return Err(Failure::refused(format!("{}: not written, since a rewrite is refused", shown(target))));
+        }
         destination.stage(&input.bytes)?.commit()?;
         writeln!(out, "written to {}", shown(target))?;
+        for line in shorter {
+            writeln!(out, "{line}: {}; its former words {}", Change::SHORTER, kept(arguments, &input))?;
+        }
         if let (Ok(before), Ok(after)) = (before, Checksum::of(&input.bytes)) {
             say_change(out, &before, &after)?;
         }
     }
-    Ok(())
+    match refused {
+        true => Err(Failure::Said(Status::Refused)),
+        false => Ok(()),
+    }
 }
 
 /// What a call asks of an image.
@@ -66,12 +81,12 @@ fn asked(call: &Call) -> Asked {
     Asked { track, revolution, size }
 }
 
-/// Makes a call once more on a copy of the image, so that the reason of the next refusal is looked up in the bytes that it was about.
-fn follow(image: &mut [u8], call: &Call) {
-    if let Call::Rewrite { track, revolution, duration, words } = call {
-        // What it answers is known already.
-        let _ = scp::rewrite(image, *track, *revolution, *duration, words);
-    }
+/// Makes a call once more on a copy of the image, so that the reason of the next refusal is looked up in the bytes that it was about; gives
+/// whether it made its revolution shorter.
+fn follow(image: &mut [u8], call: &Call) -> bool {
+    let Call::Rewrite { track, revolution, duration, words } = call else { return false };
+    let before = scp::revolution(image, *track, *revolution).map_or(0, |found| found.words as usize);
+    scp::rewrite(image, *track, *revolution, *duration, words).is_ok() && words.len() / 2 < before
 }
 
 /// The calls of a file, and the numbers of their lines.

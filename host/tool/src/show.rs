@@ -5,7 +5,7 @@ mod refused;
 use std::fmt::Display;
 use std::io::{self, Write};
 
-use scp::{Footer, Header, STRING_NAMES};
+use scp::{Footer, Header, Reason, Refusal, STRING_NAMES};
 
 use crate::arguments::{Arguments, Command};
 use crate::checksum::Checksum;
@@ -14,7 +14,7 @@ use crate::failure::{Failure, Status};
 use crate::files::Input;
 use crate::flux::count_intervals;
 use crate::numbers::{grouped, milliseconds};
-use crate::reasons;
+use crate::reasons::{self, Fault};
 
 /// The command.
 pub const COMMAND: Command = Command { name: "show", flags: &[], values: &[], help: include_str!("help/show.txt"), run };
@@ -85,10 +85,10 @@ fn show(input: &Input, out: &mut dyn Write) -> Result<(), Failure> {
     let tracks = input.ask(scp::tracks)?;
     field(out, "image", &input.name)?;
     field(out, "size", format!("{} bytes", grouped(input.bytes.len() as u64)))?;
-    say_header(&header, tracks.len(), out)?;
+    say_header(&header, &format!("{} present", tracks.len()), out)?;
     field(out, "checksum", &checksum)?;
     match footer {
-        Some(footer) => say_footer(&input.bytes, &footer, out)?,
+        Some(footer) => say_footer(&input.bytes, &footer, &[], out)?,
         None => field(out, "footer", "none")?,
     }
     say_tracks(input, &tracks, out)?;
@@ -100,8 +100,8 @@ fn field(out: &mut dyn Write, name: &str, value: impl Display) -> io::Result<()>
     writeln!(out, "{name:<20}{value}")
 }
 
-/// The fields of the header, decoded.
-fn say_header(header: &Header, tracks: usize, out: &mut dyn Write) -> io::Result<()> {
+/// The fields of the header, decoded, with what is said of the tracks.
+fn say_header(header: &Header, tracks: &str, out: &mut dyn Write) -> io::Result<()> {
     let disk = DISKS.iter().find(|(disk, _)| *disk == header.disk).map_or("not named by the format", |(_, name)| name);
     let heads = match header.heads {
         0 => "both",
@@ -112,7 +112,7 @@ fn say_header(header: &Header, tracks: usize, out: &mut dyn Write) -> io::Result
     field(out, "version", version(header.version))?;
     field(out, "disk type", format!("0x{:02X} ({disk})", header.disk))?;
     field(out, "revolutions", format!("{} for each track", header.revolutions))?;
-    field(out, "tracks", format!("{} to {}, {tracks} present", header.start, header.end))?;
+    field(out, "tracks", format!("{} to {}, {tracks}", header.start, header.end))?;
     field(out, "flags", format!("0x{:02X}", header.flags))?;
     for (bit, (name, clear, set)) in FLAGS.into_iter().enumerate() {
         field(out, &format!("  {name}"), if header.flags & (1 << bit) == 0 { clear } else { set })?;
@@ -127,15 +127,19 @@ fn version(byte: u8) -> String {
     format!("{}.{} (0x{byte:02X})", byte >> 4, byte & 15)
 }
 
-/// The strings, times and versions of the footer.
-fn say_footer(image: &[u8], footer: &Footer, out: &mut dyn Write) -> io::Result<()> {
-    field(out, "footer", "present")?;
-    for (name, offset) in STRING_NAMES.into_iter().zip(footer.strings) {
-        let name = format!("  {name}");
-        match scp::string(image, offset) {
-            Some(string) => field(out, &name, format!("\"{}\" (at 0x{offset:08X})", string.escape_ascii()))?,
-            None => field(out, &name, "-")?,
-        }
+/// The strings, times and versions of the footer, or the faults that they have.
+fn say_footer(image: &[u8], footer: &Footer, faults: &[Fault], out: &mut dyn Write) -> io::Result<()> {
+    match fault(faults, Reason::Footer, 0) {
+        None => field(out, "footer", "present")?,
+        Some(fault) => field(out, "footer", format!("present, but {fault}"))?,
+    }
+    for (number, (name, offset)) in (0..).zip(STRING_NAMES.into_iter().zip(footer.strings)) {
+        let value = match (fault(faults, Reason::String, number), scp::string(image, offset)) {
+            (Some(fault), _) => fault.to_string(),
+            (None, Some(string)) => format!("\"{}\" (at 0x{offset:08X})", string.escape_ascii()),
+            (None, None) => "-".to_string(),
+        };
+        field(out, &format!("  {name}"), value)?;
     }
     for (name, seconds) in [("  created", footer.created), ("  modified", footer.modified)] {
         field(out, name, format!("{} ({seconds} s)", utc(seconds)))?;
@@ -146,6 +150,11 @@ fn say_footer(image: &[u8], footer: &Footer, out: &mut dyn Write) -> io::Result<
     Ok(())
 }
 
+/// The first fault of a reason at a position.
+fn fault(faults: &[Fault], reason: Reason, position: u32) -> Option<&Fault> {
+    faults.iter().find(|fault| fault.refusal == Refusal { reason, position: position.into() })
+}
+
 /// A speed, or a dash for none.
 fn rpm(speed: Option<f64>) -> String {
     speed.map_or("-".to_string(), |speed| format!("{speed:.3}"))
@@ -153,14 +162,14 @@ fn rpm(speed: Option<f64>) -> String {
 
 /// The table of tracks.
 fn say_tracks(input: &Input, tracks: &[u32], out: &mut dyn Write) -> Result<(), Failure> {
-    writeln!(out, "\ntrack cylinder head     offset revolutions   slowest rpm   fastest rpm")?;
+    writeln!(out, "\ntrack cylinder head     offset revolutions    slowest rpm    fastest rpm")?;
     for &track in tracks {
         let found = input.ask_of((track, 0), |image, track, _| scp::track(image, track))?;
         let speeds = input.ask_of((track, 0), |image, track, _| scp::track_speed(image, track))?;
         let (slowest, fastest) = speeds.map(|speeds| (speeds.slowest, speeds.fastest)).unzip();
         let (cylinder, head, offset, revolutions) = (found.cylinder, found.head, found.offset, found.revolutions);
         let (slowest, fastest) = (rpm(slowest), rpm(fastest));
-        writeln!(out, "{track:>5} {cylinder:>8} {head:>4} 0x{offset:08X} {revolutions:>11} {slowest:>13} {fastest:>13}")?;
+        writeln!(out, "{track:>5} {cylinder:>8} {head:>4} 0x{offset:08X} {revolutions:>11} {slowest:>14} {fastest:>14}")?;
     }
     Ok(())
 }
@@ -168,7 +177,7 @@ fn say_tracks(input: &Input, tracks: &[u32], out: &mut dyn Write) -> Result<(), 
 /// The table of revolutions.
 fn say_revolutions(input: &Input, tracks: &[u32], out: &mut dyn Write) -> Result<(), Failure> {
     let revolutions = input.ask(scp::header)?.revolutions;
-    writeln!(out, "\ntrack rev      ticks            ms     words intervals  open ticks           rpm")?;
+    writeln!(out, "\ntrack rev      ticks            ms      words  intervals    open ticks            rpm")?;
     for &track in tracks {
         for revolution in 0..u32::from(revolutions) {
             let place = (track, revolution);
@@ -177,7 +186,7 @@ fn say_revolutions(input: &Input, tracks: &[u32], out: &mut dyn Write) -> Result
             let (intervals, open) =
                 input.ask_of(place, |image, track, revolution| count_intervals(scp::flux(image, track, revolution)?))?;
             let (ticks, ms, words) = (found.duration, milliseconds(u64::from(found.duration)), found.words);
-            writeln!(out, "{track:>5} {revolution:>3} {ticks:>10} {ms:>13} {words:>9} {intervals:>9} {open:>11} {speed:>13}")?;
+            writeln!(out, "{track:>5} {revolution:>3} {ticks:>10} {ms:>13} {words:>10} {intervals:>10} {open:>13} {speed:>14}")?;
         }
     }
     Ok(())

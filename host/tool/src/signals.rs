@@ -7,8 +7,11 @@ use std::ptr::null_mut;
 use std::sync::atomic::{AtomicPtr, AtomicU32, Ordering::SeqCst};
 use std::sync::Once;
 
-/// The signals by their numbers: hang-up, interrupt (Ctrl-C) and termination.
-const SIGNALS: [c_int; 3] = [1, 2, 15];
+/// The signals by their numbers: hang-up, interrupt (Ctrl-C), quit, termination and the end of the processor's time.
+const SIGNALS: [c_int; 5] = [1, 2, 3, 15, 24];
+
+/// The signal of a file that grows too long; ignored, so that writing fails instead.
+const TOO_LONG: c_int = 25;
 
 /// The action of a signal that ends the process.
 const DEFAULT: usize = 0;
@@ -90,6 +93,8 @@ fn catch() {
             WAITING.fetch_and(!bit(number), SeqCst);
         }
     }
+    // SAFETY: this is no handler.
+    unsafe { signal(TOO_LONG, IGNORED) };
 }
 
 /// The handler: a signal in a step is noted, another one acts at once.
@@ -127,6 +132,9 @@ mod tests {
 
     use super::*;
 
+    /// The signal of termination.
+    const TERMINATION: c_int = 15;
+
     /// The variable that names a file, and makes the test the process that the signal ends.
     const FILE: &str = "FLUXPROOF_TEST_FILE";
 
@@ -139,7 +147,7 @@ mod tests {
     fn end_in_a_step(file: &Path) {
         let registered = step(|| {
             // SAFETY: it takes a number alone.
-            step(|| unsafe { raise(SIGNALS[2]) });
+            step(|| unsafe { raise(TERMINATION) });
             fs::write(beside(file, "noted"), "").and_then(|()| fs::write(file, "")).expect("files written");
             Registered::new(file)
         });
@@ -156,7 +164,7 @@ mod tests {
         let mut command = Command::new(std::env::current_exe().expect("the test's path"));
         command.args(["--exact", "signals::tests::a_signal_in_a_step_acts_at_its_end"]).env(FILE, &file);
         let done = command.output().expect("the test runs");
-        assert_eq!(done.status.signal(), Some(SIGNALS[2]), "{done:?}");
+        assert_eq!(done.status.signal(), Some(TERMINATION), "{done:?}");
         fs::remove_file(beside(&file, "noted")).expect("the step goes on after the signal");
         assert!(!beside(&file, "after").exists() && !file.exists());
     }

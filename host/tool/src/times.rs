@@ -1,4 +1,4 @@
-//! New flux for a revolution: as times in a text file, or as raw words.
+//! New flux for a revolution, as times in a text file.
 
 use scp::{Reason, Refusal, ZERO_WORD_TICKS};
 

@@ -2,8 +2,9 @@
 
 use std::fmt::Write;
 
+use crate::arguments::Arguments;
 use crate::failure::Failure;
-use crate::files::GREATEST;
+use crate::files::{Input, GREATEST};
 
 /// A patch of a revolution: what it was before and what it is now.
 pub struct Change {
@@ -15,6 +16,14 @@ pub struct Change {
     pub duration: (u32, u32),
     /// How many words there are, before and now.
     pub words: (usize, usize),
+}
+
+/// Where the former words of a revolution are once its image is written again.
+pub fn kept(arguments: &Arguments, input: &Input) -> String {
+    match arguments.has("--in-place") || !input.is_regular() {
+        true => "were not kept".to_string(),
+        false => format!("are still in {}", input.name),
+    }
 }
 
 impl Change {

@@ -2,7 +2,7 @@
 
 use std::ops::Range;
 
-use scp::{STRING_NAMES, TRACKS};
+use scp::STRING_NAMES;
 
 use crate::layout::{Layout, TABLE_END};
 use crate::numbers::grouped;
@@ -37,9 +37,8 @@ fn overlap(left: &Range<u64>, right: &Range<u64>) -> Option<u64> {
 
 /// All that is claimed by others than the rewrite of a revolution.
 fn claims(layout: Layout, (track, revolution): (u32, u32)) -> Option<Vec<Part>> {
-    let revolutions = u32::from(layout.header()?.revolutions);
     let mut claims: Vec<Part> = vec![(0..TABLE_END as u64, "the header and the table".to_string())];
-    for (other, header) in layout.entries().filter(|&(other, _)| other < TRACKS) {
+    for (other, header) in layout.entries() {
         let (end, name) = (header + layout.track_header_size(), format!("the header of track {other}"));
         if other == track {
             let record = Layout::record_offset(header, revolution);
@@ -47,7 +46,7 @@ fn claims(layout: Layout, (track, revolution): (u32, u32)) -> Option<Vec<Part>> 
         } else {
             claims.push((header..end, name));
         }
-        for number in (0..revolutions).filter(|&number| (other, number) != (track, revolution)) {
+        for number in (0..layout.revolutions()).filter(|&number| (other, number) != (track, revolution)) {
             let found = layout.revolution(header, number)?;
             let flux = found.offset..found.offset + 2 * u64::from(found.words);
             claims.push((flux, format!("the flux of track {other}, revolution {number}")));

@@ -4,11 +4,8 @@ use std::fmt;
 
 use scp::{Footer, Header, Reason, Refusal, LONGEST_IMAGE, STRING_NAMES, TRACKS};
 
-use crate::layout::{Layout, LEAST_WITH_FOOTER, TABLE_END};
-use crate::numbers::grouped;
-
-/// The most revolutions of a track.
-const MOST_REVOLUTIONS: u8 = 5;
+use crate::layout::{Layout, TrackHeader, FOOTER_SIGN, LEAST_WITH_FOOTER, MOST_REVOLUTIONS, TABLE_END};
+use crate::numbers::{counted, grouped};
 
 /// The format version of the oldest footer.
 const FOOTER_FORMAT: u8 = 0x16;
@@ -37,6 +34,8 @@ pub fn faults(image: &[u8]) -> Vec<Fault> {
         if !search.layout.is_cut() {
             search.footer(&header);
             search.tracks(&header);
+        }
+        if (TABLE_END..=LONGEST_IMAGE).contains(&image.len()) {
             search.sum(&header);
         }
     }
@@ -107,13 +106,13 @@ impl Search<'_> {
             return;
         };
         let Footer { strings, versions: [.., format], .. } = footer;
-        if sign != *b"FPCS" {
+        if sign != FOOTER_SIGN {
             self.note(Reason::Footer, format!("the last four bytes are {}, not FPCS", hexadecimal(&sign)));
         }
         if format < FOOTER_FORMAT {
             self.note(Reason::Footer, format!("the format version 0x{format:02X} is below 0x{FOOTER_FORMAT:02X}"));
         }
-        if sign == *b"FPCS" {
+        if sign == FOOTER_SIGN {
             for (number, (name, offset)) in (0..).zip(STRING_NAMES.into_iter().zip(strings)) {
                 if let Some(text) = self.string(offset.into()) {
                     self.note_at(Reason::String, number, format!("{name}: {text}"));
@@ -142,9 +141,11 @@ impl Search<'_> {
         }
         let (text, last) = (self.layout.part(offset + 2, size)?, self.layout.array::<1>(past - 1)?);
         match text.iter().position(|&byte| byte == 0) {
-            Some(zero) => Some(format!("byte {} of its {} at {} is 0", grouped(zero as u64), grouped(size), grouped(offset))),
+            Some(zero) => Some(format!("the byte at {}, within its {}, is 0", grouped(offset + 2 + zero as u64), counted(size, "byte"))),
             None if last == [0] => None,
-            None => Some(format!("the byte {} at {} after it is not 0", hexadecimal(&last), grouped(past - 1))),
+            None => {
+                Some(format!("the byte at {}, after its {}, is {}, not 0", grouped(past - 1), counted(size, "byte"), hexadecimal(&last)))
+            }
         }
     }
 
@@ -153,7 +154,7 @@ impl Search<'_> {
         for (track, entry) in self.layout.entries() {
             self.slot(header, track);
             if self.track_header(track, entry) {
-                self.flux(header, track, entry);
+                self.flux(track, entry);
             }
         }
     }
@@ -176,31 +177,25 @@ impl Search<'_> {
 
     /// The track data header; whether there is one, so that its records can be read.
     fn track_header(&mut self, track: u32, entry: u64) -> bool {
-        let (start, end, size) = (TABLE_END as u64, self.layout.end(), self.layout.track_header_size());
-        if entry < start {
-            self.note_at(Reason::Track, track, format!("track {track}: its header at {entry} is below {start}"));
-            return false;
-        }
-        let Some([sign @ .., number]) = self.layout.array::<4>(entry).filter(|_| entry + size <= end) else {
-            let (at, past, end) = (grouped(entry), grouped(entry + size), grouped(end));
-            self.note_at(Reason::Track, track, format!("track {track}: its header of {size} bytes at {at} ends at {past}, past {end}"));
-            return false;
+        let (at, end) = (grouped(entry), grouped(self.layout.end()));
+        let text = match self.layout.track_header(entry) {
+            TrackHeader::Of(number) if u32::from(number) == track => return true,
+            TrackHeader::Of(number) => format!("its header at {at} is that of track {number}"),
+            TrackHeader::TooLow => format!("its header at {at} is below {TABLE_END}"),
+            TrackHeader::TooHigh(past) => {
+                let size = grouped(self.layout.track_header_size());
+                format!("its header of {size} bytes at {at} ends at {}, past {end}", grouped(past))
+            }
+            TrackHeader::Other(sign) => format!("the three bytes at {at} are {}, not TRK", hexadecimal(&sign)),
         };
-        if sign != *b"TRK" {
-            let (at, found) = (grouped(entry), hexadecimal(&sign));
-            self.note_at(Reason::Track, track, format!("track {track}: the three bytes at {at} are {found}, not TRK"));
-            return false;
-        }
-        if u32::from(number) != track {
-            self.note_at(Reason::Track, track, format!("track {track}: its header at {} is that of track {number}", grouped(entry)));
-        }
-        true
+        self.note_at(Reason::Track, track, format!("track {track}: {text}"));
+        matches!(self.layout.track_header(entry), TrackHeader::Of(_))
     }
 
     /// The flux of each revolution of a track.
-    fn flux(&mut self, header: &Header, track: u32, entry: u64) {
+    fn flux(&mut self, track: u32, entry: u64) {
         let end = self.layout.end();
-        for revolution in 0..u32::from(header.revolutions) {
+        for revolution in 0..self.layout.revolutions() {
             let Some(found) = self.layout.revolution(entry, revolution) else { return };
             let past = found.offset + 2 * u64::from(found.words);
             if past > end {

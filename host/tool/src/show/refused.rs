@@ -4,10 +4,10 @@ use std::io::{self, Write};
 
 use scp::Reason;
 
-use super::{field, say_footer, say_header};
+use super::{fault, field, say_footer, say_header};
 use crate::files::Input;
 use crate::flux::count_intervals;
-use crate::layout::Layout;
+use crate::layout::{Layout, TrackHeader, FOOTER_SIGN, TABLE_END};
 use crate::numbers::{grouped, milliseconds};
 use crate::reasons::{faults, Fault};
 
@@ -23,16 +23,22 @@ pub fn show(input: &Input, out: &mut dyn Write) -> io::Result<()> {
     let Some(header) = layout.header() else {
         return field(out, "header", "not there");
     };
-    say_header(&header, layout.entries().count(), out)?;
+    let present = match input.bytes.len() < TABLE_END {
+        true => "which are present is cut off".to_string(),
+        false => format!("{} present", layout.entries().count()),
+    };
+    say_header(&header, &present, out)?;
     if layout.is_cut() {
         return Ok(());
     }
+    let faults = faults(&input.bytes);
     field(out, "checksum", format!("stored {}, true sum {}", header.checksum, layout.sum()))?;
-    match layout.footer() {
-        Some((footer, _)) => say_footer(&input.bytes, &footer, out)?,
-        None => field(out, "footer", if layout.has_footer() { "flagged, but not there" } else { "none" })?,
+    match (layout.footer(), fault(&faults, Reason::Footer, 0)) {
+        (Some((footer, FOOTER_SIGN)), _) => say_footer(&input.bytes, &footer, &faults, out)?,
+        (_, Some(fault)) => field(out, "footer", fault)?,
+        (_, None) => field(out, "footer", "none")?,
     }
-    say_tracks(layout, &faults(&input.bytes), out)?;
+    say_tracks(layout, &faults, out)?;
     say_revolutions(layout, out)
 }
 
@@ -40,8 +46,8 @@ pub fn show(input: &Input, out: &mut dyn Write) -> io::Result<()> {
 fn say_tracks(layout: Layout, faults: &[Fault], out: &mut dyn Write) -> io::Result<()> {
     writeln!(out, "\ntrack cylinder head     offset  fault")?;
     for (track, entry) in layout.entries() {
-        let of_it = |fault: &&Fault| OF_TRACKS.contains(&fault.refusal.reason) && fault.refusal.position == u64::from(track);
-        let fault = faults.iter().find(of_it).map_or("-".to_string(), Fault::to_string);
+        let fault = OF_TRACKS.into_iter().find_map(|reason| fault(faults, reason, track));
+        let fault = fault.map_or("-".to_string(), Fault::to_string);
         writeln!(out, "{track:>5} {:>8} {:>4} 0x{entry:08X}  {fault}", track / 2, track % 2)?;
     }
     Ok(())
@@ -49,10 +55,10 @@ fn say_tracks(layout: Layout, faults: &[Fault], out: &mut dyn Write) -> io::Resu
 
 /// The table of revolutions of the tracks whose header can be read; of flux that is not there, no intervals.
 fn say_revolutions(layout: Layout, out: &mut dyn Write) -> io::Result<()> {
-    writeln!(out, "\ntrack rev      ticks            ms     words intervals  open ticks")?;
-    let revolutions = layout.header().map_or(0, |header| u32::from(header.revolutions));
-    for (track, entry) in layout.entries().filter(|&(_, entry)| layout.is_track_header(entry)) {
-        for revolution in 0..revolutions {
+    writeln!(out, "\ntrack rev      ticks            ms      words  intervals    open ticks")?;
+    let readable = |entry| matches!(layout.track_header(entry), TrackHeader::Of(_));
+    for (track, entry) in layout.entries().filter(|&(_, entry)| readable(entry)) {
+        for revolution in 0..layout.revolutions() {
             let Some(found) = layout.revolution(entry, revolution) else { break };
             let (ticks, ms, words) = (found.duration, milliseconds(found.duration.into()), found.words);
             let size = 2 * u64::from(words);
@@ -60,7 +66,7 @@ fn say_revolutions(layout: Layout, out: &mut dyn Write) -> io::Result<()> {
             let read = flux.and_then(|flux| count_intervals(flux).ok());
             let (intervals, open) = read.map(|(intervals, open)| (intervals.to_string(), open.to_string())).unzip();
             let (intervals, open) = (intervals.unwrap_or("-".to_string()), open.unwrap_or("-".to_string()));
-            writeln!(out, "{track:>5} {revolution:>3} {ticks:>10} {ms:>13} {words:>9} {intervals:>9} {open:>11}")?;
+            writeln!(out, "{track:>5} {revolution:>3} {ticks:>10} {ms:>13} {words:>10} {intervals:>10} {open:>13}")?;
         }
     }
     Ok(())

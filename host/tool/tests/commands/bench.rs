@@ -101,8 +101,18 @@ impl Bench {
 
     /// Runs the command and expects it to succeed silently on standard error; gives its output.
     pub fn passes(&self, line: &str) -> String {
+        self.says(line, 0)
+    }
+
+    /// Runs the command and expects it to say a refusal on standard output; gives that.
+    pub fn refuses(&self, line: &str) -> String {
+        self.says(line, 1)
+    }
+
+    /// Runs the command and expects a status, and nothing on standard error; gives its output.
+    fn says(&self, line: &str, status: i32) -> String {
         let run = self.run(line);
-        assert_eq!((run.status, run.err.as_str()), (0, ""), "{line}: {run:?}");
+        assert_eq!((run.status, run.err.as_str()), (status, ""), "{line}: {run:?}");
         run.out
     }
 }

@@ -1,8 +1,9 @@
 //! What patch, replay and plot write, and what they never replace.
 
 use std::fs;
+use std::process::Child;
 
-use crate::bench::{patched_a, Bench, Run};
+use crate::bench::{image, patched_a, Bench, Run};
 
 /// The end of a patch of image A.
 const TAIL: &str = "0 0 --duration 8000000 --words words.bin";
@@ -117,6 +118,26 @@ fn a_file_that_is_standard_input_is_not_replaced() {
     }
 }
 
+#[test]
+fn patches_in_place_at_once_are_all_made() {
+    let bench = Bench::new();
+    let revolutions: &[(u32, &[u16])] = &[(1, &[5])];
+    let tracks: Vec<(u8, &[(u32, &[u16])])> = (0..8).map(|track| (track, revolutions)).collect();
+    bench.put("t.scp", &image(0, &tracks));
+    bench.put("word.bin", &[0, 9]);
+    let patches = (0..8).map(|track| format!("patch t.scp t.scp {track} 0 --duration {} --words word.bin --in-place", 100 + track));
+    let children: Vec<Child> = patches.map(|line| bench.command(&line).spawn().expect("the command runs")).collect();
+    for child in children {
+        let run = Run::of(child.wait_with_output().expect("the command ends"));
+        assert_eq!((run.status, run.err.as_str()), (0, ""), "{run:?}");
+    }
+    let patched = bench.get("t.scp");
+    for track in 0..8 {
+        assert_eq!(scp::revolution(&patched, track, 0).map(|found| found.duration), Ok(100 + track));
+    }
+    assert_eq!(scp::validate(&patched), Ok(()));
+}
+
 #[cfg(unix)]
 mod rights {
     use std::os::unix::fs::{chown, MetadataExt, PermissionsExt};
@@ -164,12 +185,12 @@ mod rights {
     #[test]
     fn a_new_file_has_the_mode_of_the_image() {
         let bench = bench();
-        for (index, mode) in [0o600, 0o444, 0o640].into_iter().enumerate() {
+        for (index, mode) in [0o600, 0o444, 0o640, 0o4755, 0o2755].into_iter().enumerate() {
             set_mode(&bench, "a.scp", mode);
             bench.passes(&format!("patch a.scp p{index} 0 0 --duration keep --words words.bin --undo u{index}"));
             bench.passes(&format!("replay a.scp calls.txt --out r{index}"));
             for name in ["p", "u", "r"] {
-                assert_eq!(rights(&bench, &format!("{name}{index}")).2, mode, "{name}");
+                assert_eq!(rights(&bench, &format!("{name}{index}")).2, mode & 0o777, "{name}");
             }
         }
     }

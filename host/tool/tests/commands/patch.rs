@@ -128,8 +128,8 @@ fn refused_patches_leave_everything() {
     for (arguments, status, message) in [
         ("1 0 --duration 1 --words words.bin", 1, "a.scp: refused 13 Absent: track 1 has no entry"),
         ("0 1 --duration 1 --words words.bin", 1, "a.scp: refused 14 Revolution: revolution 1 of track 0"),
-        ("0 0 --duration 1 --words odd.bin", 1, "a.scp: refused 17 Words: an odd number of bytes, 3"),
-        ("0 0 --duration 1 --words many.bin", 1, "a.scp: refused 17 Words: 5 words, where the revolution has 4"),
+        ("0 0 --duration 1 --words odd.bin", 1, "odd.bin: refused 17 Words: an odd number of bytes, 3"),
+        ("0 0 --duration 1 --words many.bin", 1, "many.bin: refused 17 Words: 5 words, where the revolution has 4"),
         ("0 0 --duration 1 --words none.bin", 3, "none.bin: No such file"),
         ("0 0 --duration 1 --times long.txt", 1, "long.txt: refused 17 Words: 5 words, where the revolution has 4"),
         ("0 0 --duration 1 --times gap.txt", 1, "gap.txt: refused 17 Words: 6 words, where the revolution has 4"),

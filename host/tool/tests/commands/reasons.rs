@@ -55,8 +55,8 @@ fn cases() -> Vec<(Vec<u8>, &'static str, &'static str)> {
         (commented(719), "8 at 5", "8 String: comments: its length at 719 ends past 720"),
         (commented(u32::MAX), "8 at 5", "8 String: comments: its length at 4,294,967,295 ends past 720"),
         (changed(footed(), 712, &[6]), "8 at 0", "8 String: maker: 2 + 6 + 1 bytes at 712 end at 721, past 720"),
-        (changed(footed(), 716, &[0]), "8 at 0", "8 String: maker: byte 2 of its 5 at 712 is 0"),
-        (changed(footed(), 712, &[4]), "8 at 0", "8 String: maker: the byte 6F at 718 after it is not 0"),
+        (changed(footed(), 716, &[0]), "8 at 0", "8 String: maker: the byte at 716, within its 5 bytes, is 0"),
+        (changed(footed(), 712, &[4]), "8 at 0", "8 String: maker: the byte at 718, after its 4 bytes, is 6F, not 0"),
         (changed(three_tracks(), 7, &[2]), "9 at 3", "9 Slot: track 3 has an entry, but the tracks are 1 to 2"),
         (changed(three_tracks(), 6, &[2]), "9 at 1", "9 Slot: track 1 has an entry, but the tracks are 2 to 3"),
         (one_side(1), "9 at 3", "9 Slot: track 3 has an entry, but only side 0 is held (heads 1)"),
@@ -126,8 +126,8 @@ fn all_faults_are_listed() {
     let due = [
         "a.scp: ok",
         "b.scp: refused 3 Width: byte 0x09 is 8, not 0 or 16",
-        "b.scp: also 8 String: maker: byte 0 of its 1 at 784 is 0",
-        "b.scp: also 8 String: serial: the byte 07 at 795 after it is not 0",
+        "b.scp: also 8 String: maker: the byte at 786, within its 1 byte, is 0",
+        "b.scp: also 8 String: serial: the byte at 795, after its 1 byte, is 07, not 0",
         "b.scp: also 9 Slot: track 1 has an entry, but only side 0 is held (heads 1)",
         "b.scp: also 9 Slot: track 2 has an entry, but the tracks are 1 to 1",
         "b.scp: also 10 Track: track 2: the three bytes at 720 are 54 00 4B, not TRK",
@@ -167,20 +167,35 @@ fn a_rewrite_that_is_refused_is_told() {
     let at = |distance: u32| changed(tracks.clone(), 688 + 4 + 12 + 8, &distance.to_le_bytes());
     let footed = with_footer(at(28), [b"x", b"", b"", b"", b"", b""], 1, 2);
     bench.put("two.bin", &[0, 1, 0, 2]);
-    bench.put("odd.bin", &[0, 1, 0]);
-    bench.put("five.bin", &[1; 10]);
-    let words = "--words two.bin";
-    for (bytes, words, said) in [
-        (at(32), "--words odd.bin", "17 Words: an odd number of bytes, 3"),
-        (at(32), "--words five.bin", "17 Words: 5 words, where the revolution has 2"),
-        (at(30), words, "18 Shared: byte 718 is of its present flux and of the flux of track 0, revolution 0"),
-        (at(24), words, "18 Shared: byte 712 is of its present flux and of the header of track 0"),
-        (at(14), words, "18 Shared: byte 704 is of its duration and count and of its present flux"),
-        (at(36), words, "18 Shared: byte 724 is of its present flux and of the header of track 1"),
-        (changed(footed.clone(), 712, &72_u32.to_le_bytes()), words, "18 Shared: byte 760 is of its present flux and of the string maker"),
+    for (bytes, said) in [
+        (at(30), "18 Shared: byte 718 is of its present flux and of the flux of track 0, revolution 0"),
+        (at(24), "18 Shared: byte 712 is of its present flux and of the header of track 0"),
+        (at(14), "18 Shared: byte 704 is of its duration and count and of its present flux"),
+        (at(36), "18 Shared: byte 724 is of its present flux and of the header of track 1"),
+        (changed(footed.clone(), 712, &72_u32.to_le_bytes()), "18 Shared: byte 760 is of its present flux and of the string maker"),
     ] {
         bench.put("b.scp", &bytes);
-        bench.fails(&format!("patch b.scp c.scp 0 1 --duration keep {words}"), 1, &format!("b.scp: refused {said}"));
+        bench.fails("patch b.scp c.scp 0 1 --duration keep --words two.bin", 1, &format!("b.scp: refused {said}"));
     }
     assert!(!bench.path("c.scp").exists());
+}
+
+#[test]
+fn a_wrong_number_of_revolutions_makes_no_other_faults() {
+    let bench = Bench::new();
+    for revolutions in [0, 6, 200, 255] {
+        bench.put("b.scp", &changed(three_tracks(), 5, &[revolutions]));
+        let due = format!("b.scp: refused 4 Revolutions: byte 0x05 is {revolutions}, not 1 to 5\n");
+        assert_eq!(bench.refuses("validate --all b.scp"), due);
+        let shown = bench.refuses("show b.scp");
+        assert!(shown.contains("0x000002B0  -\n") && shown.ends_with("open ticks\n"), "{shown}");
+    }
+}
+
+#[test]
+fn a_cut_file_is_told_by_its_length() {
+    let bench = Bench::new();
+    bench.put("b.scp", &three_tracks()[..600]);
+    assert_eq!(bench.refuses("validate --all b.scp"), "b.scp: refused 1 Size: 600 bytes, fewer than 688\n");
+    assert!(bench.refuses("show b.scp").contains("1 to 3, which are present is cut off\n"));
 }

@@ -48,7 +48,7 @@ const ANSWERS: &str = "\
 fn every_call_has_its_answer() {
     let bench = Bench::new();
     bench.put("calls.txt", CALLS.as_bytes());
-    assert_eq!(bench.passes("replay a.scp calls.txt"), ANSWERS);
+    assert_eq!(bench.refuses("replay a.scp calls.txt"), ANSWERS);
     assert_eq!(bench.get("a.scp"), scp::example::image_a());
     assert_eq!(bench.run_with("replay a.scp -", CALLS.as_bytes()).out, ANSWERS);
     assert_eq!(bench.names(), ["a.scp", "calls.txt"]);
@@ -78,8 +78,8 @@ fn answers_of_a_refused_image_are_refusals() {
     bench.put("short.scp", b"SCP");
     bench.put("calls.txt", b"validate\nheader\n");
     let size = "refused 1 Size: 3 bytes, fewer than 688";
-    assert_eq!(bench.passes("replay short.scp calls.txt"), format!("1: validate: {size}\n2: header: {size}\n"));
-    bench.passes("replay short.scp calls.txt --out copy.scp");
+    assert_eq!(bench.refuses("replay short.scp calls.txt"), format!("1: validate: {size}\n2: header: {size}\n"));
+    assert!(bench.refuses("replay short.scp calls.txt --out copy.scp").ends_with("\nwritten to copy.scp\n"));
     assert_eq!(bench.get("copy.scp"), b"SCP");
 }
 
@@ -89,7 +89,7 @@ fn an_image_that_is_too_long_is_not_written_cut() {
     let file = std::fs::File::create(bench.path("long.scp")).expect("a file");
     file.set_len(268_435_458).expect("a sparse file");
     bench.put("calls.txt", b"validate");
-    assert!(bench.passes("replay long.scp calls.txt").starts_with("1: validate: refused 1 Size: more than 268,435,456 bytes\n"));
+    assert!(bench.refuses("replay long.scp calls.txt").starts_with("1: validate: refused 1 Size: more than 268,435,456 bytes\n"));
     bench.fails("replay long.scp calls.txt --out b.scp", 3, "long.scp: longer than 268,435,456 bytes");
     bench.fails("replay long.scp calls.txt --out long.scp --in-place", 3, "long.scp: longer than 268,435,456 bytes");
     assert_eq!((bench.names().len(), file.metadata().map(|found| found.len()).ok()), (3, Some(268_435_458)));
@@ -141,5 +141,35 @@ fn a_reason_is_that_of_the_bytes_that_the_call_got() {
         "3: rewrite 0 0 1 (0 bytes): ok",
         "4: rewrite 0 0 1 (2 bytes): refused 17 Words: 1 word, where the revolution has 0",
     ];
-    assert_eq!(bench.passes("replay a.scp calls.txt").lines().collect::<Vec<_>>(), due);
+    assert_eq!(bench.refuses("replay a.scp calls.txt").lines().collect::<Vec<_>>(), due);
+}
+
+#[test]
+fn nothing_is_written_where_a_rewrite_is_refused() {
+    let bench = Bench::new();
+    bench.put("old.scp", b"precious");
+    bench.put("calls.txt", b"rewrite 0 0 1 0001\nrewrite 1 0 1 0001\nvalidate\n");
+    let names = bench.names();
+    for (out, more) in [("new.scp", ""), ("old.scp", "--force"), ("a.scp", "--in-place")] {
+        let run = bench.run(&format!("replay a.scp calls.txt --out {out} {more}"));
+        assert_eq!((run.status, run.err), (1, format!("fluxproof: {out}: not written, since a rewrite is refused\n")));
+        assert!(
+            run.out.contains("2: rewrite 1 0 1 (2 bytes): refused 13 Absent: ") && run.out.ends_with("3: validate: ok\n"),
+            "{}",
+            run.out
+        );
+    }
+    assert_eq!((bench.get("a.scp"), bench.get("old.scp"), bench.names()), (scp::example::image_a(), b"precious".to_vec(), names));
+}
+
+#[test]
+fn a_revolution_that_gets_shorter_is_said() {
+    let bench = Bench::new();
+    bench.put("calls.txt", b"rewrite 0 0 1 0001 0002 0003 0004\nrewrite 0 0 1 0001\n");
+    let shorter = "2: the revolution is shorter now, and this tool cannot make it longer again";
+    assert!(!bench.passes("replay a.scp calls.txt").contains("shorter"));
+    let out = bench.passes("replay a.scp calls.txt --out b.scp");
+    assert!(out.contains(&format!("written to b.scp\n{shorter}")) && out.contains("; its former words are still in a.scp\n"), "{out}");
+    let out = bench.passes("replay a.scp calls.txt --out a.scp --in-place");
+    assert!(out.contains(&format!("written to a.scp\n{shorter}")) && out.contains("; its former words were not kept\n"), "{out}");
 }

@@ -144,5 +144,30 @@ fn files_that_are_hardly_images_are_shown() {
         assert!(run.out.contains(due) && run.out.contains(&format!("{} bytes", bytes.len())), "{}", run.out);
     }
     bench.put("s.scp", &footer_cut);
-    assert!(has(&bench.run("show s.scp").out, "footer", "flagged, but not there"));
+    let due = "7 Footer: FLAGS 0x21 announces one, but 712 bytes are fewer than 736";
+    assert!(has(&bench.refuses("show s.scp"), "footer", due));
+}
+
+#[test]
+fn faults_of_a_footer_stand_beside_its_fields() {
+    let bench = Bench::new();
+    let sound = with_footer(scp::example::image_a(), [b"Maker", b"", b"Serial", b"", b"", b""], 1, 2);
+    let strings = sound.len() - 48;
+    let changed = |offset: usize, bytes: &[u8]| {
+        let mut image = sound.clone();
+        image[offset..offset + bytes.len()].copy_from_slice(bytes);
+        bench.put("s.scp", &image);
+        bench.refuses("show s.scp")
+    };
+    for (offset, bytes, name, value) in [
+        (strings, &[10, 0][..], "maker", "8 String: maker: its offset 10 is below 688"),
+        (strings + 4, &[0xFF, 0xFF], "model", "8 String: model: its length at 65,535 ends past 729"),
+        (712 + 3, &[0], "maker", "8 String: maker: the byte at 715, within its 5 bytes, is 0"),
+        (strings + 0x2B, &[0x10], "footer", "present, but 7 Footer: the format version 0x10 is below 0x16"),
+        (strings + 0x2C, b"fpcs", "footer", "7 Footer: the last four bytes are 66 70 63 73, not FPCS"),
+    ] {
+        let shown = changed(offset, bytes);
+        assert!(has(&shown, name, value), "{name} {value}: {shown}");
+        assert_eq!(has(&shown, "serial", "\"Serial\" (at 0x000002D0)"), bytes != b"fpcs", "{shown}");
+    }
 }

@@ -2,13 +2,13 @@
 
 use std::fs;
 use std::os::unix::process::ExitStatusExt;
-use std::process::{Child, Command, ExitStatus};
+use std::process::{Child, Command, ExitStatus, Output};
 use std::time::{Duration, Instant};
 
-use crate::bench::{patched_a, Bench};
+use crate::bench::{patched_a, Bench, Run};
 
-/// Hang-up, interrupt and termination.
-const SIGNALS: [i32; 3] = [1, 2, 15];
+/// Hang-up, interrupt, quit, termination and the end of the processor's time.
+const SIGNALS: [i32; 5] = [1, 2, 3, 15, 24];
 
 /// Stops a process until it goes on.
 const STOP: i32 = 19;
@@ -47,32 +47,48 @@ fn bench() -> Bench {
     let bench = Bench::with_words();
     let file = fs::File::create(bench.path("long.scp")).expect("a file");
     file.set_len(LONG).expect("a sparse file");
-    bench.put("calls.txt", b"header\n");
+    bench.put("calls.txt", b"\n");
     bench
 }
 
-/// Runs a command, stops it while it has a temporary file, sends a signal and lets it go on; nothing if it was too fast.
-fn interrupted(bench: &Bench, command: &mut Command, signal: i32) -> Option<ExitStatus> {
-    let mut child = command.spawn().expect("the command runs");
+/// Runs a command, stops it while it has a temporary file, does something to it and lets it go on; nothing if it was too fast.
+fn interrupted(bench: &Bench, command: &mut Command, act: impl Fn(&Child)) -> Option<Output> {
+    let child = command.spawn().expect("the command runs");
     while !has_temporary(bench) && !is_still(&child) {}
     send(&child, STOP);
     while !is_still(&child) {}
     let hit = has_temporary(bench);
-    send(&child, signal);
+    act(&child);
     send(&child, GO_ON);
-    let status = child.wait().expect("the command ends");
-    hit.then_some(status)
+    let output = child.wait_with_output().expect("the command ends");
+    hit.then_some(output)
 }
 
-/// The same, until it was not too fast; between the attempts the file to write is removed.
+/// The same with a signal, until it was not too fast; between the attempts the file to write is removed.
 fn surely_interrupted(bench: &Bench, mut command: impl FnMut() -> Command, signal: i32, out: &str) -> ExitStatus {
     for _ in 0..ATTEMPTS {
-        match interrupted(bench, &mut command(), signal) {
-            Some(status) => return status,
+        match interrupted(bench, &mut command(), |child| send(child, signal)) {
+            Some(output) => return output.status,
             None => fs::remove_file(bench.path(out)).expect("the file written"),
         }
     }
     panic!("the command was too fast each time");
+}
+
+#[test]
+fn an_image_that_others_change_meanwhile_is_not_replaced() {
+    let bench = bench();
+    let others_write = |_: &Child| {
+        let file = fs::OpenOptions::new().write(true).open(bench.path("long.scp")).expect("the image");
+        std::os::unix::fs::FileExt::write_all_at(&file, b"other", 0).expect("a change");
+    };
+    let mut attempts = (0..ATTEMPTS).map(|_| {
+        let mut command = bench.command("replay long.scp calls.txt --out long.scp --in-place");
+        interrupted(&bench, &mut command, others_write)
+    });
+    let run = Run::of(attempts.find_map(|output| output).expect("the command is once not too fast"));
+    assert_eq!((run.status, run.err.as_str()), (3, "fluxproof: long.scp: it was changed meanwhile, so it is not replaced\n"));
+    assert!(bench.get("long.scp").starts_with(b"other") && !has_temporary(&bench));
 }
 
 #[test]
@@ -140,7 +156,7 @@ fn at_any_moment_a_patch_and_its_undo_are_both_there_or_neither() {
         let mut child = bench.command(&format!("patch a.scp a.scp {tail}")).spawn().expect("the command runs");
         let moment = Instant::now() + Duration::from_micros(attempt * 37 % 5000);
         while Instant::now() < moment {}
-        send(&child, SIGNALS[attempt as usize % 3]);
+        send(&child, SIGNALS[attempt as usize % 5]);
         child.wait().expect("the command ends");
         let done = bench.path("undo.txt").exists();
         assert_eq!(bench.get("a.scp"), if done { patched_a() } else { scp::example::image_a() });

@@ -57,8 +57,7 @@ fn an_image_that_is_refused_gives_1() {
         bench.put("bad.scp", bytes);
         for line in lines("bad.scp") {
             let run = bench.run(&line);
-            let status = if line.starts_with("replay") { 0 } else { 1 };
-            assert!(run.status == status && (run.out.clone() + &run.err).contains(refusal), "{line}: {run:?}");
+            assert!(run.status == 1 && (run.out.clone() + &run.err).contains(refusal), "{line}: {run:?}");
         }
     }
     assert_eq!(bench.get("out.scp"), bench.get("bad.scp"));
@@ -110,6 +109,21 @@ fn a_full_standard_output_gives_3() {
     }
 }
 
+#[cfg(target_os = "linux")]
+#[test]
+fn a_stream_that_cannot_be_used_gives_3() {
+    let bench = bench();
+    let message = ": Bad file descriptor (os error 9)\n";
+    for line in lines("a.scp") {
+        let reading = OpenOptions::new().read(true).open("/dev/null").expect("the empty device");
+        let run = Run::of(bench.command(&line).stdout(reading).output().expect("the command runs"));
+        assert_eq!((run.status, run.err), (3, format!("fluxproof: standard output{message}")), "{line}");
+    }
+    let writing = OpenOptions::new().write(true).open("/dev/null").expect("the empty device");
+    let run = Run::of(bench.command("validate -").stdin(writing).output().expect("the command runs"));
+    assert_eq!((run.status, run.out), (3, format!("standard input{message}")));
+}
+
 /// Runs a line of the shell in the folder, in which "$0" is the command.
 #[cfg(unix)]
 fn shell(bench: &Bench, program: &str, options: &[&str], script: &str) -> Run {
@@ -129,7 +143,7 @@ fn a_file_that_grows_too_long_changes_nothing() {
     let fresh = ["patch a.scp new.scp 0 0 --duration 1 --words words.bin --undo undo.txt", "plot a.scp 0 0 new.svg"];
     let writing = LINES[4..].iter().map(|line| line.replace("FILE", "a.scp"));
     for line in writing.chain(in_place.map(String::from)).chain(fresh.map(String::from)) {
-        let run = shell(&bench, "sh", &[], &format!("trap '' XFSZ; ulimit -f 1; exec \"$0\" {line}"));
+        let run = shell(&bench, "sh", &[], &format!("ulimit -f 1; exec \"$0\" {line}"));
         assert!(run.status == 3 && run.err.contains(": cannot be written: File too large"), "{line}: {run:?}");
         assert_eq!((bench.get("out.scp"), bench.get("out.svg")), (b"precious".to_vec(), b"precious".to_vec()), "{line}");
         assert_eq!((bench.get("a.scp"), bench.names()), (scp::example::image_a(), names.clone()), "{line}");
@@ -146,7 +160,7 @@ fn an_undo_file_that_grows_too_long_changes_nothing() {
     let (names, out) = (bench.names(), "o".repeat(150));
     // The image has less than 1024 bytes, the text to undo has more.
     let line = format!("patch a.scp {out} 0 0 --duration keep --words words.bin --undo undo.txt");
-    let run = shell(&bench, "sh", &[], &format!("trap '' XFSZ; ulimit -f 2; exec \"$0\" {line}"));
+    let run = shell(&bench, "sh", &[], &format!("ulimit -f 2; exec \"$0\" {line}"));
     assert!(run.status == 3 && run.err.contains("undo.txt: cannot be written: File too large"), "{run:?}");
     assert_eq!((bench.get("a.scp"), bench.names()), (small, names));
 }

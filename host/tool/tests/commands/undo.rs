@@ -76,7 +76,7 @@ fn a_shorter_revolution_is_said_to_be_for_good() {
     assert_eq!(lines[1], format!("# {SHORTER}; its former words are kept here, but replay refuses to put them back"));
     assert_eq!(lines[2..], ["rewrite 0 0 8000000 00A0 0000 0001 00F0"]);
     assert!(bench
-        .passes("replay b.scp undo.txt")
+        .refuses("replay b.scp undo.txt")
         .starts_with("3: rewrite 0 0 8000000 (8 bytes): refused 17 Words: 4 words, where the revolution has "));
     let out = bench.passes(&format!("patch a.scp a.scp {tail} --in-place"));
     assert!(out.contains(&format!("words 4 -> 1\n{SHORTER}; its former words were not kept\n")), "{out}");

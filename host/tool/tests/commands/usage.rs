@@ -1,6 +1,6 @@
 //! Help, versions and wrong command lines.
 
-use crate::bench::Bench;
+use crate::bench::{Bench, Run};
 
 /// All commands.
 const COMMANDS: [&str; 7] = ["list", "validate", "show", "read", "patch", "replay", "plot"];
@@ -55,6 +55,27 @@ fn wrong_command_lines_name_the_help() {
     bench.fails("patch a.scp b.scp 0 0 --duration 1 --words a.scp --us", 2, "--us is for --times, which is missing");
     bench.fails("patch a.scp - 0 0 --duration 1 --words a.scp", 2, "\"-\" names no file to write (one named - is ./-)");
     bench.fails("patch a.scp a.scp 0 0 --duration 1 --words a.scp --in-place --force", 2, "--in-place and --force exclude each other");
+}
+
+#[cfg(unix)]
+#[test]
+fn names_are_shown_so_that_they_can_be_told_apart() {
+    use std::os::unix::ffi::OsStrExt;
+    let bench = Bench::new();
+    for (name, shown) in [
+        (&b"x\xFFy.scp"[..], "x\\xFFy.scp"),
+        ("\u{202E}a\u{2028}.scp".as_bytes(), "\\u{202e}a\\u{2028}.scp"),
+        (b"a\nb\x1B.scp", "a\\nb\\u{1b}.scp"),
+        ("\u{E9}e\u{301} \"'\\.scp".as_bytes(), "\u{E9}e\u{301} \"'\\.scp"),
+    ] {
+        let name = std::ffi::OsStr::from_bytes(name);
+        std::fs::write(bench.folder.join(name), scp::example::image_a()).expect("a file");
+        let done = bench.command("validate").arg(name).output().expect("the command runs");
+        assert_eq!(String::from_utf8_lossy(&done.stdout), format!("{shown}: ok\n"));
+    }
+    let option = std::ffi::OsStr::from_bytes(b"--times=x\xFF");
+    let run = Run::of(bench.command("patch a.scp b.scp 0 0 --duration 1").arg(option).output().expect("the command runs"));
+    assert!(run.status == 2 && run.err.contains("\"--times=x\\xFF\" is not UTF-8: give a value as a word of its own"), "{run:?}");
 }
 
 #[test]
