@@ -3,7 +3,7 @@
 use std::fs;
 use std::process::Child;
 
-use crate::bench::{image, patched_a, Bench, Run};
+use crate::bench::{image, patched_a, Bench, Revolution, Run};
 
 /// The end of a patch of image A.
 const TAIL: &str = "0 0 --duration 8000000 --words words.bin";
@@ -121,9 +121,8 @@ fn a_file_that_is_standard_input_is_not_replaced() {
 #[test]
 fn patches_in_place_at_once_are_all_made() {
     let bench = Bench::new();
-    let revolutions: &[(u32, &[u16])] = &[(1, &[5])];
-    let tracks: Vec<(u8, &[(u32, &[u16])])> = (0..8).map(|track| (track, revolutions)).collect();
-    bench.put("t.scp", &image(0, &tracks));
+    let revolutions: &[Revolution] = &[(1, &[5])];
+    bench.put("t.scp", &image(0, &std::array::from_fn::<_, 8, _>(|track| (track as u8, revolutions))));
     bench.put("word.bin", &[0, 9]);
     let patches = (0..8).map(|track| format!("patch t.scp t.scp {track} 0 --duration {} --words word.bin --in-place", 100 + track));
     let children: Vec<Child> = patches.map(|line| bench.command(&line).spawn().expect("the command runs")).collect();
