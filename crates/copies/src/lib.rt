@@ -7,15 +7,15 @@ pub fn bytes(out: &mut [u8], at: usize, values: &[u8]) -> bool
     ensures { λ r. ⌜ r ≡ fitsAt (now (out .entry)) at (now (values .entry)) ⌝ }
     ensures { λ _. ⌜ now (out .exit) ≡ copiedAt (now (out .entry)) at (now (values .entry)) ⌝ }
 {
-    let n = values.len();
-    if out.len() < n {
+    let size = values.len();
+    if out.len() < size {
         return false;
     }
-    if out.len() - n < at {
+    if out.len() - size < at {
         return false;
     }
     let mut j = 0;
-    while j < n {
+    while j < size {
         out[at + j] = values[j];
         j += 1;
     }

@@ -6,7 +6,7 @@ use mathlib.Core.List.{List, [], _∷_}
 use mathlib.Core.Bool.{true, false}
 use Rattle.octets.specs.Numbers.{byteAt, Octets}
 use Rattle.refusals.specs.Refusals.{none}
-use Rattle.scp_fields.specs.Header.{revolutions, readWrite, storedSum, trueSum}
+use Rattle.scp_fields.specs.Header.{checksumAt, revolutions, readWrite, storedSum, trueSum}
 use Rattle.scp_open.specs.Opening.{openFault}
 use Rattle.scp.specs.Answers.{Answer}
 use Rattle.scp_sharing.specs.Extents.{extent, In}
@@ -58,7 +58,7 @@ pub record Sequence (b : List ℕ) (cs : List Call) (q : List ℕ) (said : List 
   -- so sound stays sound, and a damaged image never looks sound
   pub sound : readWrite b ≡ false → (storedSum b ≡ trueSum b) ↔ (storedSum q ≡ trueSum q)
   -- on a read/write image the checksum bytes stay
-  pub readWritten : readWrite b ≡ true → (i : ℕ) → In i (extent 0x0C 4) → byteAt q i ≡ byteAt b i
+  pub readWritten : readWrite b ≡ true → (i : ℕ) → In i (extent checksumAt 4) → byteAt q i ≡ byteAt b i
 
 -- S-12: the claim, for all first bytes and all lists of calls.
 abbrev pub EverySequence : Type 0

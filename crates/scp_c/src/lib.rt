@@ -1,5 +1,5 @@
 // The boundary to C and Rust: each call returns 0, or a refusal's number + 256 x its position, and puts its values to a lent buffer.
-// A slice passes as a pointer and a length (include/scp.h).
+// A slice passes as a pointer and a length (include/scp.h). What a call on flux or a question does stands in `flux_coded` and `scp_coded`.
 ghost use mathlib.Core.Path.{_≡_};
 ghost use lib.ListN.{length};
 ghost use Rattle.flux.specs.Answers.{stepAt, reading, writing, bufferAfter};
@@ -8,17 +8,6 @@ ghost use Rattle.scp_rewrite.specs.Answering.{rewriteAnswer};
 ghost use Rattle.scp_rewrite.specs.Rewriting.{afterRewrite};
 ghost use Rattle.sequence.specs.Replaying.{replayAnswer, Replays};
 ghost use Rattle.scp_boundary.specs.Boundary.{codeOf, within, outAfter, numbersOf, floatsOf, stepNumbers, both, valuesOf};
-use flux::Cursor;
-use flux::Filled;
-use flux::Step;
-use flux::Written;
-use scp::FooterAnswer;
-use scp::HeaderAnswer;
-use scp::SpeedAnswer;
-use scp::TrackAnswer;
-use scp::TrackSpeedAnswer;
-use scp::Validated;
-use scp_lookup::RevolutionAnswer;
 use scp_rewrite::Rewritten;
 use sequence::Replayed;
 
@@ -29,11 +18,7 @@ use sequence::Replayed;
 pub extern "C" fn scp_validate(image: &[u8]) -> u64
     ensures { λ r. ⌜ r ≡ codeOf (numbersOf (validateAnswer (now (image .entry)))) ⌝ }
 {
-    let found = scp::validate(image);
-    match found {
-        Validated::Valid => 0,
-        Validated::Refused(r) => scp_boundary::code(r),
-    }
+    scp_coded::validate(image)
 }
 
 // The header: version, disk type, revolutions, start, end, flags, width, heads, checksum.
@@ -42,14 +27,7 @@ pub extern "C" fn scp_header(image: &[u8], out: &mut [u64]) -> u64
     ensures { λ r. ⌜ r ≡ codeOf (within (length (now (out .entry))) (numbersOf (headerAnswer (now (image .entry))))) ⌝ }
     ensures { λ _. ⌜ now (out .exit) ≡ outAfter (now (out .entry)) (within (length (now (out .entry))) (numbersOf (headerAnswer (now (image .entry))))) ⌝ }
 {
-    let found = scp::header(image);
-    match found {
-        HeaderAnswer::Found(h) => {
-            let row = scp_values::header_numbers(h);
-            scp_boundary::give(out, &row)
-        }
-        HeaderAnswer::Refused(r) => scp_boundary::code(r),
-    }
+    scp_coded::header(image, out)
 }
 
 // The footer: 1, six offsets, two times, four version bytes; 13 zeros where there is none.
@@ -58,18 +36,7 @@ pub extern "C" fn scp_footer(image: &[u8], out: &mut [u64]) -> u64
     ensures { λ r. ⌜ r ≡ codeOf (within (length (now (out .entry))) (numbersOf (footerAnswer (now (image .entry))))) ⌝ }
     ensures { λ _. ⌜ now (out .exit) ≡ outAfter (now (out .entry)) (within (length (now (out .entry))) (numbersOf (footerAnswer (now (image .entry))))) ⌝ }
 {
-    let found = scp::footer(image);
-    match found {
-        FooterAnswer::Found(f) => {
-            let row = scp_values::footer_numbers(f);
-            scp_boundary::give(out, &row)
-        }
-        FooterAnswer::None => {
-            let row = [0u64; 13];
-            scp_boundary::give(out, &row)
-        }
-        FooterAnswer::Refused(r) => scp_boundary::code(r),
-    }
+    scp_coded::footer(image, out)
 }
 
 // A track: cylinder, head, file offset of its header, revolutions.
@@ -78,14 +45,7 @@ pub extern "C" fn scp_track(image: &[u8], track: u32, out: &mut [u64]) -> u64
     ensures { λ r. ⌜ r ≡ codeOf (within (length (now (out .entry))) (numbersOf (trackAnswer (now (image .entry)) track))) ⌝ }
     ensures { λ _. ⌜ now (out .exit) ≡ outAfter (now (out .entry)) (within (length (now (out .entry))) (numbersOf (trackAnswer (now (image .entry)) track))) ⌝ }
 {
-    let found = scp::track(image, track);
-    match found {
-        TrackAnswer::Found(d) => {
-            let row = scp_values::track_numbers(d);
-            scp_boundary::give(out, &row)
-        }
-        TrackAnswer::Refused(r) => scp_boundary::code(r),
-    }
+    scp_coded::track(image, track, out)
 }
 
 // A revolution: duration, words, file offset of its flux.
@@ -94,14 +54,7 @@ pub extern "C" fn scp_revolution(image: &[u8], track: u32, revolution: u32, out:
     ensures { λ r. ⌜ r ≡ codeOf (within (length (now (out .entry))) (numbersOf (revolutionAnswer (now (image .entry)) track revolution))) ⌝ }
     ensures { λ _. ⌜ now (out .exit) ≡ outAfter (now (out .entry)) (within (length (now (out .entry))) (numbersOf (revolutionAnswer (now (image .entry)) track revolution))) ⌝ }
 {
-    let found = scp::revolution(image, track, revolution);
-    match found {
-        RevolutionAnswer::Found(d) => {
-            let row = scp_values::revolution_numbers(d);
-            scp_boundary::give(out, &row)
-        }
-        RevolutionAnswer::Refused(r) => scp_boundary::code(r),
-    }
+    scp_coded::revolution(image, track, revolution, out)
 }
 
 // The flux of a revolution.
@@ -110,11 +63,7 @@ pub extern "C" fn scp_flux(image: &[u8], track: u32, revolution: u32, out: &mut 
     ensures { λ r. ⌜ r ≡ codeOf (within (length (now (out .entry))) (numbersOf (fluxAnswer (now (image .entry)) track revolution))) ⌝ }
     ensures { λ _. ⌜ now (out .exit) ≡ outAfter (now (out .entry)) (within (length (now (out .entry))) (numbersOf (fluxAnswer (now (image .entry)) track revolution))) ⌝ }
 {
-    let answer = scp::revolution(image, track, revolution);
-    match answer {
-        RevolutionAnswer::Found(d) => scp_boundary::give_bytes(out, scp_values::flux_of(image, d)),
-        RevolutionAnswer::Refused(r) => scp_boundary::code(r),
-    }
+    scp_coded::flux(image, track, revolution, out)
 }
 
 // ---- speeds
@@ -125,11 +74,7 @@ pub extern "C" fn scp_speed(image: &[u8], track: u32, revolution: u32, out: &mut
     ensures { λ r. ⌜ r ≡ codeOf (within (length (now (out .entry))) (floatsOf 2 (speedAnswer (now (image .entry)) track revolution))) ⌝ }
     ensures { λ _. ⌜ now (out .exit) ≡ outAfter (now (out .entry)) (within (length (now (out .entry))) (floatsOf 2 (speedAnswer (now (image .entry)) track revolution))) ⌝ }
 {
-    let found = scp::speed(image, track, revolution);
-    match found {
-        SpeedAnswer::Found(s) => scp_boundary::give_speed(out, s),
-        SpeedAnswer::Refused(r) => scp_boundary::code(r),
-    }
+    scp_coded::speed(image, track, revolution, out)
 }
 
 // The speeds of a track: 1.0, slowest, fastest, or three zeros.
@@ -138,19 +83,7 @@ pub extern "C" fn scp_track_speed(image: &[u8], track: u32, out: &mut [f64]) -> 
     ensures { λ r. ⌜ r ≡ codeOf (within (length (now (out .entry))) (floatsOf 3 (trackSpeedAnswer (now (image .entry)) track))) ⌝ }
     ensures { λ _. ⌜ now (out .exit) ≡ outAfter (now (out .entry)) (within (length (now (out .entry))) (floatsOf 3 (trackSpeedAnswer (now (image .entry)) track))) ⌝ }
 {
-    let found = scp::track_speed(image, track);
-    match found {
-        TrackSpeedAnswer::Found(s) => {
-            let row = [scp_boundary::whole(1), s.slowest, s.fastest];
-            scp_boundary::give_floats(out, &row)
-        }
-        TrackSpeedAnswer::None => {
-            let zero = scp_boundary::whole(0);
-            let row = [zero, zero, zero];
-            scp_boundary::give_floats(out, &row)
-        }
-        TrackSpeedAnswer::Refused(r) => scp_boundary::code(r),
-    }
+    scp_coded::track_speed(image, track, out)
 }
 
 // ---- flux
@@ -161,21 +94,7 @@ pub extern "C" fn scp_step(flux: &[u8], word: u64, out: &mut [u64]) -> u64
     ensures { λ r. ⌜ r ≡ codeOf (within (length (now (out .entry))) (stepNumbers (stepAt (now (flux .entry)) word))) ⌝ }
     ensures { λ _. ⌜ now (out .exit) ≡ outAfter (now (out .entry)) (within (length (now (out .entry))) (stepNumbers (stepAt (now (flux .entry)) word))) ⌝ }
 {
-    let cursor = Cursor {
-        word: word as usize,
-    };
-    let found = cursor.step(flux);
-    match found {
-        Step::Interval { ticks, open, next } => {
-            let row = [ticks, open, next.word as u64];
-            scp_boundary::give(out, &row)
-        }
-        Step::Open { open, next } => {
-            let row = [0, open, next.word as u64];
-            scp_boundary::give(out, &row)
-        }
-        Step::Refused(r) => scp_boundary::code(r),
-    }
+    flux_coded::step(flux, word, out)
 }
 
 // All intervals at one go: the intervals to `times`; count, open ticks to `out`.
@@ -185,15 +104,7 @@ pub extern "C" fn scp_intervals(flux: &[u8], times: &mut [u64], out: &mut [u64])
     ensures { λ _. ⌜ now (times .exit) ≡ bufferAfter (now (times .entry)) (both (length (now (out .entry))) (reading (now (flux .entry)) (length (now (times .entry))))) ⌝ }
     ensures { λ _. ⌜ now (out .exit) ≡ outAfter (now (out .entry)) (valuesOf (both (length (now (out .entry))) (reading (now (flux .entry)) (length (now (times .entry)))))) ⌝ }
 {
-    let places = scp_boundary::lent(times.len(), out.len(), 2);
-    let found = flux::intervals(flux, &mut times[..places]);
-    match found {
-        Filled::Places { filled, open } => {
-            let row = [filled as u64, open];
-            scp_boundary::give(out, &row)
-        }
-        Filled::Refused(r) => scp_boundary::code(r),
-    }
+    flux_coded::intervals(flux, times, out)
 }
 
 // Words from times: the bytes to `words`; their number to `out`.
@@ -203,15 +114,7 @@ pub extern "C" fn scp_words(times: &[u64], words: &mut [u8], out: &mut [u64]) ->
     ensures { λ _. ⌜ now (words .exit) ≡ bufferAfter (now (words .entry)) (both (length (now (out .entry))) (writing (now (times .entry)) (length (now (words .entry))))) ⌝ }
     ensures { λ _. ⌜ now (out .exit) ≡ outAfter (now (out .entry)) (valuesOf (both (length (now (out .entry))) (writing (now (times .entry)) (length (now (words .entry)))))) ⌝ }
 {
-    let places = scp_boundary::lent(words.len(), out.len(), 1);
-    let found = flux::words(times, &mut words[..places]);
-    match found {
-        Written::Bytes(n) => {
-            let row = [n as u64];
-            scp_boundary::give(out, &row)
-        }
-        Written::Refused(r) => scp_boundary::code(r),
-    }
+    flux_coded::words(times, words, out)
 }
 
 // ---- rewriting and sequences of calls

@@ -14,6 +14,10 @@ use Rattle.refusals.specs.Search.{listFrom}
 abbrev pub sizeLimit : ℕ
 sizeLimit = 268_435_456
 
+-- L-10: where the checksum stands.
+abbrev pub checksumAt : ℕ
+checksumAt = 0x0C
+
 -- L-11: where the table of tracks starts.
 abbrev pub tableAt : ℕ
 tableAt = 0x10
@@ -86,7 +90,7 @@ heads b = byteAt b 0x0A
 
 -- L-10: 0x0C, the checksum as it is stored.
 abbrev pub storedSum : List ℕ → ℕ
-storedSum b = le32At b 0x0C
+storedSum b = le32At b checksumAt
 
 -- L-10: the true byte sum: of all bytes from 0x10 to the end of the image, modulo 2^32.
 unfoldable pub trueSum : List ℕ → ℕ

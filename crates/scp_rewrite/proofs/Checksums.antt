@@ -7,7 +7,7 @@ use mathlib.Core.List.{List}
 use native.Mathlib.Omega.{arith}
 use Rattle.octets.specs.Numbers.{Octets}
 use Rattle.octets.proofs.Numbers.{le-bound}
-use Rattle.scp_fields.specs.Header.{storedSum, trueSum}
+use Rattle.scp_fields.specs.Header.{checksumAt, storedSum, trueSum}
 use Rattle.scp_rewrite.specs.Rewriting.{moved}
 use Rattle.scp_rewrite.specs.OneRewrite.{distance}
 
@@ -26,6 +26,6 @@ distance-kept b q e = rw e (moved-distance (storedSum b) (trueSum q) (trueSum b)
 pub sound-distance : (b : List ℕ) → Octets b → (storedSum b ≡ trueSum b) ↔ (distance b ≡ 0)
 unfolding distance
 sound-distance b h =
-    let stored : storedSum b < 4_294_967_296 = le-bound 4 b 0x0C h in
+    let stored : storedSum b < 4_294_967_296 = le-bound 4 b checksumAt h in
     let true-sum = true-bound b in
     (λ e. omega arith, λ e. omega arith)

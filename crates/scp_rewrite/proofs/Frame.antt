@@ -13,7 +13,7 @@ use lib.Seq.{sets, length-sets, getD-take, getD-drop, ext-getD, take-length}
 use Rattle.octets.specs.Numbers.{byteAt, Octets, le32At, leBytes}
 use Rattle.octets.specs.Sums.{byteSum}
 use Rattle.octets.proofs.Numbers.{Apart, byte-apart, byte-inside, drop-sets, le-same, le-apart, le-length, le-read-same, le-octets, sets-octets}
-use Rattle.scp_fields.specs.Header.{readWrite, storedSum, trueSum, trackEntry}
+use Rattle.scp_fields.specs.Header.{checksumAt, readWrite, storedSum, trueSum, trackEntry}
 use Rattle.scp_tracks.specs.Tracks.{revolutionAt, durationAt, countAt, fluxAt}
 use Rattle.scp_sharing.specs.Extents.{extent, In}
 use Rattle.scp_rewrite.specs.Rewriting.{patched, moved, summed, rewritten}
@@ -102,32 +102,32 @@ module _ (b p : List ℕ) where
   sum = moved (storedSum b) (trueSum p) (trueSum b)
 
   -- what holds of p with and without the checksum's store holds of p summed
-  either-way : (P : List ℕ → Type 0) → P p → P (sets p 0x0C (leBytes 4 sum)) → P (summed b p)
+  either-way : (P : List ℕ → Type 0) → P p → P (sets p checksumAt (leBytes 4 sum)) → P (summed b p)
   unfolding summed
   either-way P without with = by (readWrite b)
     where
-      by : (x : Bool) → P (cond x p (sets p 0x0C (leBytes 4 sum)))
+      by : (x : Bool) → P (cond x p (sets p checksumAt (leBytes 4 sum)))
       by true = without
       by false = with
 
   summed-size : length (summed b p) ≡ length p
-  summed-size = either-way (λ q. length q ≡ length p) refl (length-sets p 0x0C (leBytes 4 sum))
+  summed-size = either-way (λ q. length q ≡ length p) refl (length-sets p checksumAt (leBytes 4 sum))
 
-  summed-off : (i : ℕ) → (In i (extent 0x0C 4) → ⊥) → byteAt (summed b p) i ≡ byteAt p i
-  summed-off i h = either-way (λ q. byteAt q i ≡ byteAt p i) refl (number-off sum p 0x0C i h)
+  summed-off : (i : ℕ) → (In i (extent checksumAt 4) → ⊥) → byteAt (summed b p) i ≡ byteAt p i
+  summed-off i h = either-way (λ q. byteAt q i ≡ byteAt p i) refl (number-off sum p checksumAt i h)
 
   summed-octets : Octets p → Octets (summed b p)
-  summed-octets h = either-way Octets h (sets-octets (leBytes 4 sum) p 0x0C h (le-octets 4 sum))
+  summed-octets h = either-way Octets h (sets-octets (leBytes 4 sum) p checksumAt h (le-octets 4 sum))
 
   summed-true : trueSum (summed b p) ≡ trueSum p
   unfolding trueSum
   summed-true =
       either-way (λ q. trueSum q ≡ trueSum p) refl
-      (ap byteSum (drop-sets (leBytes 4 sum) p 0x0C 0x10 (rw (le-length 4 sum) (omega arith))))
+      (ap byteSum (drop-sets (leBytes 4 sum) p checksumAt 0x10 (rw (le-length 4 sum) (omega arith))))
 
   summed-stored : readWrite b ≡ false → 0x10 ≤ length p → storedSum (summed b p) ≡ sum
   unfolding summed
-  summed-stored e h = rw e (le-read-same 4 sum p 0x0C (omega arith) h)
+  summed-stored e h = rw e (le-read-same 4 sum p checksumAt (omega arith) h)
 
 -- ---- the rewrite
 
@@ -183,7 +183,7 @@ module _ (b : List ℕ) (t k d : ℕ) (ws : List ℕ) (a : Accepted b t k ws) wh
       ∙ take-length ws
 
   pub rewritten-rest : (i : ℕ) → (InNumbers b t k i → ⊥) → (In i (extent (fluxAt b e k) (length ws)) → ⊥)
-      → (In i (extent 0x0C 4) → ⊥) → byteAt q i ≡ byteAt b i
+      → (In i (extent checksumAt 4) → ⊥) → byteAt q i ≡ byteAt b i
   rewritten-rest i h f c = summed-off b p i c ∙ patched-rest b e k d ws i h f
 
   -- the checksum moves by the change of the true sum on a read-only image, and stays on a read/write one
@@ -192,7 +192,7 @@ module _ (b : List ℕ) (t k d : ℕ) (ws : List ℕ) (a : Accepted b t k ws) wh
       let l = lies in
       rw (summed-true b p) (summed-stored b p r (rw (patched-size b e k d ws) (omega arith)))
 
-  pub sum-stays : readWrite b ≡ true → (i : ℕ) → In i (extent 0x0C 4) → byteAt q i ≡ byteAt b i
+  pub sum-stays : readWrite b ≡ true → (i : ℕ) → In i (extent checksumAt 4) → byteAt q i ≡ byteAt b i
   unfolding summed
   sum-stays r i h =
       let u = unset a i (front (omega arith)) in

@@ -13,7 +13,7 @@ use lib.Dec.{eqb}
 use borrow.Author.Tests.{eq-eqb}
 use Rattle.octets.specs.Numbers.{byteAt, le16At}
 use Rattle.octets.proofs.Numbers.{Agree, le-same}
-use Rattle.scp_fields.specs.Header.{trackSlots, footerSize, revolutions, readWrite, hasFooter, trackEntry, dataEnd}
+use Rattle.scp_fields.specs.Header.{checksumAt, trackSlots, footerSize, revolutions, readWrite, hasFooter, trackEntry, dataEnd}
 use Rattle.scp_fields.specs.Footer.{footerAt, stringSlots, stringEntry}
 use Rattle.scp_tracks.specs.Tracks.{revolutionAt, durationAt, countAt, fluxAt}
 use Rattle.scp_open.specs.Validity.{StringHolds, FooterHolds, TrackHolds, Opens}
@@ -32,12 +32,12 @@ module _ (b q : List ℕ) (t k d : ℕ) (ws : List ℕ) (a : Accepted b t k ws) 
   track u p = o .tracks u (p .0) (p .1)
 
   -- a byte that others claim, off the checksum, stays
-  kept : (i : ℕ) → (In i (extent 0x0C 4) → ⊥) → Claimed b t k i → byteAt q i ≡ byteAt b i
+  kept : (i : ℕ) → (In i (extent checksumAt 4) → ⊥) → Claimed b t k i → byteAt q i ≡ byteAt b i
   kept i off c = let u = unset a i c in f .rest i (u .0) (u .1) off
 
   -- ---- the header and the table
 
-  low : (i : ℕ) → i < 0x0C → byteAt q i ≡ byteAt b i
+  low : (i : ℕ) → i < checksumAt → byteAt q i ≡ byteAt b i
   low i h = kept i (omega arith) (front (omega arith))
 
   pub same-readWrite : readWrite q ≡ readWrite b

@@ -4,7 +4,7 @@ use mathlib.Core.Path.{_≡_, refl, _∙_}
 use mathlib.Core.List.{List}
 use mathlib.Core.Bool.{true, false}
 use Rattle.octets.specs.Numbers.{byteAt, Octets}
-use Rattle.scp_fields.specs.Header.{trackSlots, revolutions, readWrite, trackEntry}
+use Rattle.scp_fields.specs.Header.{checksumAt, trackSlots, revolutions, readWrite, trackEntry}
 use Rattle.scp_open.specs.Validity.{Opens}
 use Rattle.scp_sharing.specs.Extents.{extent, In}
 use Rattle.scp_rewrite.specs.OneRewrite.{distance}
@@ -17,7 +17,7 @@ pub record Kept (b q : List ℕ) : Type 0 where
   pub table : (u : ℕ) → u < trackSlots → trackEntry q u ≡ trackEntry b u
   pub octets : Octets b → Octets q
   pub readOnly : readWrite b ≡ false → distance q ≡ distance b
-  pub readWritten : readWrite b ≡ true → (i : ℕ) → In i (extent 0x0C 4) → byteAt q i ≡ byteAt b i
+  pub readWritten : readWrite b ≡ true → (i : ℕ) → In i (extent checksumAt 4) → byteAt q i ≡ byteAt b i
 
 pub still : (b : List ℕ) → Kept b b
 still b =

@@ -10,7 +10,7 @@ use lib.Seq.{sets, length-sets}
 use borrow.Author.Tests.{le-leb}
 use Rattle.octets.specs.Numbers.{leBytes, putAt}
 use Rattle.octets.proofs.Numbers.{le-length}
-use Rattle.scp_fields.specs.Header.{readWrite, storedSum, trueSum}
+use Rattle.scp_fields.specs.Header.{checksumAt, readWrite, storedSum, trueSum}
 use Rattle.scp_tracks.specs.Tracks.{revolutionAt, fluxAt}
 use Rattle.scp_rewrite.specs.Rewriting.{patched, moved, movedSum, summed}
 use Rattle.scp_rewrite.specs.Steps.{Patchable, Stored}
@@ -50,12 +50,12 @@ module _ (b p q : List ℕ) (left : q ≡ p) where
   unfolding summed
   summed-kept f = left ∙ sym (simp f)
 
-  pub summed-put : {r : List ℕ} {m : ℕ} → readWrite b ≡ false → 0x10 ≤ length q → m ≡ movedSum b p → r ≡ putAt q 0x0C (leBytes 4 m)
+  pub summed-put : {r : List ℕ} {m : ℕ} → readWrite b ≡ false → 0x10 ≤ length q → m ≡ movedSum b p → r ≡ putAt q checksumAt (leBytes 4 m)
       → r ≡ summed b p
   unfolding summed
   summed-put {r} {m} f h e put =
-      let room : 0x0C + length (leBytes 4 m) ≤ length q = rw (le-length 4 m) h in
-      let done : putAt q 0x0C (leBytes 4 m) ≡ sets q 0x0C (leBytes 4 m) =
-      simp (le-leb (0x0C + length (leBytes 4 m)) (length q) room) in
-      put ∙ done ∙ ap (λ (y : List ℕ). sets y 0x0C (leBytes 4 m)) left ∙ ap (λ (y : ℕ). sets p 0x0C (leBytes 4 y)) e
+      let room : checksumAt + length (leBytes 4 m) ≤ length q = rw (le-length 4 m) h in
+      let done : putAt q checksumAt (leBytes 4 m) ≡ sets q checksumAt (leBytes 4 m) =
+      simp (le-leb (checksumAt + length (leBytes 4 m)) (length q) room) in
+      put ∙ done ∙ ap (λ (y : List ℕ). sets y checksumAt (leBytes 4 m)) left ∙ ap (λ (y : ℕ). sets p checksumAt (leBytes 4 y)) e
       ∙ sym (simp f)

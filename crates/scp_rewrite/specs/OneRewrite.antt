@@ -7,7 +7,7 @@ use mathlib.Core.Bool.{true, false}
 use lib.ListN.{length, take, drop}
 use Rattle.octets.specs.Numbers.{byteAt}
 use Rattle.refusals.specs.Refusals.{none, refusal, passes}
-use Rattle.scp_fields.specs.Header.{storedSum, trueSum, trackEntry}
+use Rattle.scp_fields.specs.Header.{checksumAt, storedSum, trueSum, trackEntry}
 use Rattle.scp_tracks.specs.Tracks.{durationAt, countAt, fluxAt}
 use Rattle.scp_lookup.specs.Questions.{revolutionQuestion}
 use Rattle.scp_sharing.specs.Extents.{extent, In}
@@ -54,7 +54,7 @@ pub record Rewrites (b q : List ℕ) (t k d : ℕ) (ws : List ℕ) : Type 0 wher
   pub count : countAt q (trackEntry b t) k ≡ length ws / 2
   pub words : take (length ws) (drop (fluxAt b (trackEntry b t) k) q) ≡ ws
   pub rest :
-      (i : ℕ) → (InNumbers b t k i → ⊥) → (In i (extent (fluxAt b (trackEntry b t) k) (length ws)) → ⊥) → (In i (extent 0x0C 4) → ⊥)
+      (i : ℕ) → (InNumbers b t k i → ⊥) → (In i (extent (fluxAt b (trackEntry b t) k) (length ws)) → ⊥) → (In i (extent checksumAt 4) → ⊥)
       → byteAt q i ≡ byteAt b i
 
 -- W-7: a rewrite is refused by what refuses the question for its revolution, else by its words, else as shared, and by nothing more; a refused

@@ -6,7 +6,7 @@ use lib.ListN.{length}
 use lib.Seq.{sets}
 use Rattle.octets.specs.Numbers.{leBytes}
 use Rattle.refusals.specs.Refusals.{passes}
-use Rattle.scp_fields.specs.Header.{readWrite, storedSum, trueSum, trackEntry}
+use Rattle.scp_fields.specs.Header.{checksumAt, readWrite, storedSum, trueSum, trackEntry}
 use Rattle.scp_tracks.specs.Tracks.{revolutionAt, fluxAt}
 use Rattle.scp_sharing.specs.RewriteFault.{rewriteFault}
 
@@ -25,7 +25,7 @@ movedSum b p = moved (storedSum b) (trueSum p) (trueSum b)
 
 -- W-11, W-12: the checksum is moved on a read-only image, and not on a read/write one; p is b with its revolution patched.
 unfoldable pub summed : List ℕ → List ℕ → List ℕ
-summed b p = cond (readWrite b) p (sets p 0x0C (leBytes 4 (movedSum b p)))
+summed b p = cond (readWrite b) p (sets p checksumAt (leBytes 4 (movedSum b p)))
 
 -- W-8 to W-12: the image that an accepted rewrite leaves.
 abbrev pub rewritten : List ℕ → ℕ → ℕ → ℕ → List ℕ → List ℕ

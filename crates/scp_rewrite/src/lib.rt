@@ -3,7 +3,6 @@
 ghost use mathlib.Core.Path.{_≡_};
 ghost use Prim.Native.Nat.{_+_, _≤_};
 ghost use lib.ListN.{length};
-ghost use lib.Seq.{sets};
 ghost use Rattle.octets.specs.Numbers.{leBytes};
 ghost use Rattle.scp_fields.specs.Header.{tableEnd, storedSum};
 ghost use Rattle.scp_rewrite.specs.Rewriting.{patched, movedSum, summed, afterRewrite};
@@ -19,18 +18,6 @@ pub enum Rewritten {
 
 // ---- the stores
 
-// Stores bytes from `at` on.
-fn put_bytes(image: &mut [u8], at: usize, bytes: &[u8])
-    requires { ⌜ at + length (now bytes) ≤ length (now image) ⌝ }
-    ensures { λ _. ⌜ now (image .exit) ≡ sets (now (image .entry)) at (now (bytes .entry)) ⌝ }
-{
-    let mut j = 0;
-    while j < bytes.len() {
-        image[at + j] = bytes[j];
-        j += 1;
-    }
-}
-
 // Stores bytes from `at` on, and hands back a sum moved by the change.
 fn store(image: &mut [u8], at: usize, bytes: &[u8], sum: u32) -> u32
     requires { ⌜ at + length (now bytes) ≤ length (now image) ⌝ }
@@ -38,7 +25,7 @@ fn store(image: &mut [u8], at: usize, bytes: &[u8], sum: u32) -> u32
 {
     let end = at + bytes.len();
     let old = octets::byte_sum(&image[at..end]);
-    put_bytes(image, at, bytes);
+    copies::bytes(image, at, bytes);
     let new = octets::byte_sum(bytes);
     std::num::wrapping_sub_u32(std::num::wrapping_add_u32(sum, new), old)
 }

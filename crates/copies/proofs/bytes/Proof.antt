@@ -8,10 +8,10 @@ use Rattle.copies.proofs.bytes.Statement.{statement}
 use Rattle.copies.proofs.bytes.Tie as tie
 
 abbrev Inv-loop : tie.InvT-loop
-Inv-loop out₀ at values n j₀ out j = Copying out₀ values at out j
+Inv-loop out₀ at values size j₀ out j = Copying out₀ values at out j
 
 abbrev μ-loop : tie.MeasureT-loop
-μ-loop out₀ at values n j₀ out j = length values - j
+μ-loop out₀ at values size j₀ out j = length values - j
 
 returns : tie.Need-returns Inv-loop μ-loop
 returns c =

@@ -1,10 +1,11 @@
 -- The sum is moved by the bytes put less those that were there, which are summed before they go.
-use Prim.Native.Nat.{ℕ, _+_, _-_, _%_}
+use Prim.Native.Nat.{ℕ, _+_, _-_, _%_, _≤_}
 use mathlib.Core.Path.{_≡_, sym, ap, _∙_}
 use native.Mathlib.Omega.{arith}
 use lib.ListN.{length, take, drop}
 use borrow.Author.Needs.{needs}
 use Rattle.octets.specs.Sums.{byteSum}
+use Rattle.copies.proofs.CopyLaws.{copy-fits}
 use Rattle.scp_rewrite.proofs.store.Statement.{statement}
 use Rattle.scp_rewrite.proofs.store.Tie as tie
 
@@ -23,8 +24,8 @@ part-byte-sum-end c = search needs
 byte-sum-requires : tie.Need-byte-sum-requires
 byte-sum-requires c κs = search needs
 
-put-bytes-requires : tie.Need-put-bytes-requires
-put-bytes-requires c κs = search needs
+bytes-requires : tie.Need-bytes-requires
+bytes-requires c κs = search needs
 
 byte-sum-requires-2 : tie.Need-byte-sum-requires-2
 byte-sum-requires-2 c κs = search needs
@@ -45,10 +46,11 @@ returns c =
     let at-put = at-new .before .before .before in
     let at-old = at-put .before .before in
     let a = at-old .before .before .before .before .before .args in
+    let room : a .at + length (a .bytes .now) ≤ length (a .image .now) = search needs in
     let size : a .at + length (a .bytes .now) - a .at ≡ length (a .bytes .now) = omega arith in
     let old = at-old .byte-sum .ensures ∙ ap (λ (n : ℕ). byteSum (take n (drop (a .at) (a .image .now)))) size in
     record {
-      bytes = at-put .put-bytes .ensures;
+      bytes = at-put .bytes .ensures .1 ∙ copy-fits (a .image .now) (a .bytes .now) (a .at) room;
       sum =
           ap (λ (x : ℕ). (c .wrapping-sub-u32 .result + x) % 4_294_967_296) (sym old)
           ∙ c .wrapping-sub-u32 .ensures
@@ -65,7 +67,7 @@ store-spec =
     part-byte-sum-start
     part-byte-sum-end
     byte-sum-requires
-    put-bytes-requires
+    bytes-requires
     byte-sum-requires-2
     wrapping-add-u32-requires
     wrapping-sub-u32-requires

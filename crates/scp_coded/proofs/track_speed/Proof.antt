@@ -6,8 +6,8 @@ use Rattle.scp.specs.Answers.{ofTrackSpeed}
 use Rattle.scp_boundary.specs.Boundary.{gives, floatsOf}
 use Rattle.scp_boundary.proofs.CodeAndBuffer.{pass-values, pass-refusal, first-same}
 use borrow.Author.Needs.{needs}
-use Rattle.scp_c.proofs.scp_track_speed.Statement.{statement}
-use Rattle.scp_c.proofs.scp_track_speed.Tie as tie
+use Rattle.scp_coded.proofs.track_speed.Statement.{statement}
+use Rattle.scp_coded.proofs.track_speed.Tie as tie
 
 track-speed-requires : tie.Need-track-speed-requires
 track-speed-requires c κs = search needs
@@ -80,8 +80,8 @@ returns-3 c =
     (ap (floatsOf 3) (ap ofTrackSpeed (sym (at-told .found2 .given .1)) ∙ at-call .track-speed .ensures))
     (c .code .ensures)
 
-pub scp-track-speed-spec : {M : Type 1} → statement M
-scp-track-speed-spec =
+pub track-speed-spec : {M : Type 1} → statement M
+track-speed-spec =
     tie.close
     (tie.spec
     track-speed-requires

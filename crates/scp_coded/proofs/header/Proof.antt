@@ -4,8 +4,8 @@ use Rattle.scp.specs.Answers.{ofHeader}
 use Rattle.scp_boundary.specs.Boundary.{gives, numbersOf}
 use Rattle.scp_boundary.proofs.CodeAndBuffer.{pass-values, pass-refusal}
 use borrow.Author.Needs.{needs}
-use Rattle.scp_c.proofs.scp_header.Statement.{statement}
-use Rattle.scp_c.proofs.scp_header.Tie as tie
+use Rattle.scp_coded.proofs.header.Statement.{statement}
+use Rattle.scp_coded.proofs.header.Tie as tie
 
 header-requires : tie.Need-header-requires
 header-requires c κs = search needs
@@ -49,8 +49,8 @@ returns-2 c =
     let found = ap ofHeader (sym (at-told .found2 .given .1)) ∙ at-call .header .ensures in
     pass-refusal (start .args .out .now) (ap numbersOf found) (c .code .ensures)
 
-pub scp-header-spec : {M : Type 1} → statement M
-scp-header-spec =
+pub header-spec : {M : Type 1} → statement M
+header-spec =
     tie.close
     (tie.spec
     header-requires

@@ -5,8 +5,8 @@ use Rattle.scp_values.proofs.FoundFlux.{flux-found, flux-refused}
 use Rattle.scp_boundary.specs.Boundary.{numbersOf}
 use Rattle.scp_boundary.proofs.CodeAndBuffer.{pass-values, pass-refusal}
 use borrow.Author.Needs.{needs}
-use Rattle.scp_c.proofs.scp_flux.Statement.{statement}
-use Rattle.scp_c.proofs.scp_flux.Tie as tie
+use Rattle.scp_coded.proofs.flux.Statement.{statement}
+use Rattle.scp_coded.proofs.flux.Tie as tie
 
 revolution-requires : tie.Need-revolution-requires
 revolution-requires c κs = search needs
@@ -50,8 +50,8 @@ returns-2 c =
     let told = flux-refused (a .image .now) (a .track) (a .revolution) _ found in
     pass-refusal (a .out .now) (ap numbersOf told) (c .code .ensures)
 
-pub scp-flux-spec : {M : Type 1} → statement M
-scp-flux-spec =
+pub flux-spec : {M : Type 1} → statement M
+flux-spec =
     tie.close
     (tie.spec
     revolution-requires

@@ -3,8 +3,8 @@ use mathlib.Core.Path.{sym, ap, _∙_}
 use Rattle.scp.specs.Answers.{Answer, ofValidated}
 use Rattle.scp_boundary.specs.Boundary.{codeOf, numbersOf}
 use borrow.Author.Needs.{needs}
-use Rattle.scp_c.proofs.scp_validate.Statement.{statement}
-use Rattle.scp_c.proofs.scp_validate.Tie as tie
+use Rattle.scp_coded.proofs.validate.Statement.{statement}
+use Rattle.scp_coded.proofs.validate.Tie as tie
 
 validate-requires : tie.Need-validate-requires
 validate-requires c κs = search needs
@@ -29,7 +29,7 @@ returns-2 c =
     let at-call = at-told .before .before in
     c .code .ensures ∙ ap (λ (a : Answer). codeOf (numbersOf a)) (ap ofValidated (sym (at-told .found .given .1)) ∙ at-call .validate .ensures)
 
-pub scp-validate-spec : {M : Type 1} → statement M
-scp-validate-spec =
+pub validate-spec : {M : Type 1} → statement M
+validate-spec =
     tie.close
     (tie.spec validate-requires enum-told enum-known-found code-requires returns returns-2)

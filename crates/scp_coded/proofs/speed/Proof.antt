@@ -4,8 +4,8 @@ use Rattle.scp.specs.Answers.{ofSpeed}
 use Rattle.scp_boundary.specs.Boundary.{floatsOf}
 use Rattle.scp_boundary.proofs.CodeAndBuffer.{pass-values, pass-refusal}
 use borrow.Author.Needs.{needs}
-use Rattle.scp_c.proofs.scp_speed.Statement.{statement}
-use Rattle.scp_c.proofs.scp_speed.Tie as tie
+use Rattle.scp_coded.proofs.speed.Statement.{statement}
+use Rattle.scp_coded.proofs.speed.Tie as tie
 
 speed-requires : tie.Need-speed-requires
 speed-requires c κs = search needs
@@ -44,8 +44,8 @@ returns-2 c =
     (ap (floatsOf 2) (ap ofSpeed (sym (at-told .found2 .given .1)) ∙ at-call .speed .ensures))
     (c .code .ensures)
 
-pub scp-speed-spec : {M : Type 1} → statement M
-scp-speed-spec =
+pub speed-spec : {M : Type 1} → statement M
+speed-spec =
     tie.close
     (tie.spec
     speed-requires

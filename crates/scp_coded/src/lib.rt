@@ -1,0 +1,133 @@
+// The calls that ask an image, answered by a code and by values put to the start of a lent buffer (include/scp.h).
+ghost use mathlib.Core.Path.{_≡_};
+ghost use lib.ListN.{length};
+ghost use Rattle.scp.specs.Answers.{validateAnswer, headerAnswer, footerAnswer, trackAnswer, revolutionAnswer, fluxAnswer, speedAnswer, trackSpeedAnswer};
+ghost use Rattle.scp_boundary.specs.Boundary.{codeOf, within, outAfter, numbersOf, floatsOf};
+use scp::FooterAnswer;
+use scp::HeaderAnswer;
+use scp::SpeedAnswer;
+use scp::TrackAnswer;
+use scp::TrackSpeedAnswer;
+use scp::Validated;
+use scp_lookup::RevolutionAnswer;
+
+// Validates the image: refusals 1 to 12.
+pub fn validate(image: &[u8]) -> u64
+    ensures { λ r. ⌜ r ≡ codeOf (numbersOf (validateAnswer (now (image .entry)))) ⌝ }
+{
+    let found = scp::validate(image);
+    match found {
+        Validated::Valid => 0,
+        Validated::Refused(r) => scp_boundary::code(r),
+    }
+}
+
+// The header: version, disk type, revolutions, start, end, flags, width, heads, checksum.
+pub fn header(image: &[u8], out: &mut [u64]) -> u64
+    ensures { λ r. ⌜ r ≡ codeOf (within (length (now (out .entry))) (numbersOf (headerAnswer (now (image .entry))))) ⌝ }
+    ensures { λ _. ⌜ now (out .exit) ≡ outAfter (now (out .entry)) (within (length (now (out .entry))) (numbersOf (headerAnswer (now (image .entry))))) ⌝ }
+{
+    let found = scp::header(image);
+    match found {
+        HeaderAnswer::Found(h) => {
+            let row = scp_values::header_numbers(h);
+            scp_boundary::give(out, &row)
+        }
+        HeaderAnswer::Refused(r) => scp_boundary::code(r),
+    }
+}
+
+// The footer: 1, six offsets, two times, four version bytes; 13 zeros where there is none.
+pub fn footer(image: &[u8], out: &mut [u64]) -> u64
+    ensures { λ r. ⌜ r ≡ codeOf (within (length (now (out .entry))) (numbersOf (footerAnswer (now (image .entry))))) ⌝ }
+    ensures { λ _. ⌜ now (out .exit) ≡ outAfter (now (out .entry)) (within (length (now (out .entry))) (numbersOf (footerAnswer (now (image .entry))))) ⌝ }
+{
+    let found = scp::footer(image);
+    match found {
+        FooterAnswer::Found(f) => {
+            let row = scp_values::footer_numbers(f);
+            scp_boundary::give(out, &row)
+        }
+        FooterAnswer::None => {
+            let row = [0u64; 13];
+            scp_boundary::give(out, &row)
+        }
+        FooterAnswer::Refused(r) => scp_boundary::code(r),
+    }
+}
+
+// A track: cylinder, head, file offset of its header, revolutions.
+pub fn track(image: &[u8], track: u32, out: &mut [u64]) -> u64
+    ensures { λ r. ⌜ r ≡ codeOf (within (length (now (out .entry))) (numbersOf (trackAnswer (now (image .entry)) track))) ⌝ }
+    ensures { λ _. ⌜ now (out .exit) ≡ outAfter (now (out .entry)) (within (length (now (out .entry))) (numbersOf (trackAnswer (now (image .entry)) track))) ⌝ }
+{
+    let found = scp::track(image, track);
+    match found {
+        TrackAnswer::Found(d) => {
+            let row = scp_values::track_numbers(d);
+            scp_boundary::give(out, &row)
+        }
+        TrackAnswer::Refused(r) => scp_boundary::code(r),
+    }
+}
+
+// A revolution: duration, words, file offset of its flux.
+pub fn revolution(image: &[u8], track: u32, revolution: u32, out: &mut [u64]) -> u64
+    ensures { λ r. ⌜ r ≡ codeOf (within (length (now (out .entry))) (numbersOf (revolutionAnswer (now (image .entry)) track revolution))) ⌝ }
+    ensures { λ _. ⌜ now (out .exit) ≡ outAfter (now (out .entry)) (within (length (now (out .entry))) (numbersOf (revolutionAnswer (now (image .entry)) track revolution))) ⌝ }
+{
+    let found = scp::revolution(image, track, revolution);
+    match found {
+        RevolutionAnswer::Found(d) => {
+            let row = scp_values::revolution_numbers(d);
+            scp_boundary::give(out, &row)
+        }
+        RevolutionAnswer::Refused(r) => scp_boundary::code(r),
+    }
+}
+
+// The flux of a revolution.
+pub fn flux(image: &[u8], track: u32, revolution: u32, out: &mut [u8]) -> u64
+    ensures { λ r. ⌜ r ≡ codeOf (within (length (now (out .entry))) (numbersOf (fluxAnswer (now (image .entry)) track revolution))) ⌝ }
+    ensures { λ _. ⌜ now (out .exit) ≡ outAfter (now (out .entry)) (within (length (now (out .entry))) (numbersOf (fluxAnswer (now (image .entry)) track revolution))) ⌝ }
+{
+    let answer = scp::revolution(image, track, revolution);
+    match answer {
+        RevolutionAnswer::Found(d) => scp_boundary::give_bytes(out, scp_values::flux_of(image, d)),
+        RevolutionAnswer::Refused(r) => scp_boundary::code(r),
+    }
+}
+
+// ---- speeds
+
+// The speed of a revolution: 1.0 and the speed, or two zeros.
+pub fn speed(image: &[u8], track: u32, revolution: u32, out: &mut [f64]) -> u64
+    ensures { λ r. ⌜ r ≡ codeOf (within (length (now (out .entry))) (floatsOf 2 (speedAnswer (now (image .entry)) track revolution))) ⌝ }
+    ensures { λ _. ⌜ now (out .exit) ≡ outAfter (now (out .entry)) (within (length (now (out .entry))) (floatsOf 2 (speedAnswer (now (image .entry)) track revolution))) ⌝ }
+{
+    let found = scp::speed(image, track, revolution);
+    match found {
+        SpeedAnswer::Found(s) => scp_boundary::give_speed(out, s),
+        SpeedAnswer::Refused(r) => scp_boundary::code(r),
+    }
+}
+
+// The speeds of a track: 1.0, slowest, fastest, or three zeros.
+pub fn track_speed(image: &[u8], track: u32, out: &mut [f64]) -> u64
+    ensures { λ r. ⌜ r ≡ codeOf (within (length (now (out .entry))) (floatsOf 3 (trackSpeedAnswer (now (image .entry)) track))) ⌝ }
+    ensures { λ _. ⌜ now (out .exit) ≡ outAfter (now (out .entry)) (within (length (now (out .entry))) (floatsOf 3 (trackSpeedAnswer (now (image .entry)) track))) ⌝ }
+{
+    let found = scp::track_speed(image, track);
+    match found {
+        TrackSpeedAnswer::Found(s) => {
+            let row = [scp_boundary::whole(1), s.slowest, s.fastest];
+            scp_boundary::give_floats(out, &row)
+        }
+        TrackSpeedAnswer::None => {
+            let zero = scp_boundary::whole(0);
+            let row = [zero, zero, zero];
+            scp_boundary::give_floats(out, &row)
+        }
+        TrackSpeedAnswer::Refused(r) => scp_boundary::code(r),
+    }
+}
