@@ -41,28 +41,19 @@ fn run(arguments: &Arguments, out: &mut dyn Write) -> Result<(), Failure> {
     let destination = Destination::new(target, &[&input, &source], arguments, Kind::Image)?;
     let undo = undo.map(|undo| destination.fresh(undo, &input)).transpose()?;
     let old = input.ask_of((track, revolution), scp::revolution)?;
-    let words = form.words(&source, old.words)?;
-    if words.is_empty() && !arguments.has("--empty") {
-        return Err(Failure::usage(format!("{}: there is nothing in it (--empty is for a revolution without words)", source.name)));
-    }
+    let words = form.words(&source, old.words, arguments.has("--empty"))?;
     let duration = (old.duration, duration.unwrap_or(old.duration));
     let change = Change { track, revolution, duration, words: (old.words as usize, words.len() / 2) };
     let former = input.ask_of((track, revolution), scp::flux)?.to_vec();
     let before = input.ask(Checksum::of)?;
-    let done = scp::rewrite(&mut input.bytes, track, revolution, duration.1, &words);
-    done.map_err(|refusal| {
-        let told = reasons::of_asked(&input.bytes, Asked { track, revolution, size: words.len() }, refusal);
-        (if refusal.reason == Reason::Words { &source } else { &input }).failure(told)
-    })?;
+    rewrite(&mut input, &source, &change, &words)?;
     let after = input.ask(Checksum::of)?;
-    let undo = match undo {
-        Some(undo) => Some(undo.stage(change.undo(&former, &input.name, &shown(target))?.as_bytes())?),
-        None => None,
-    };
-    let staged = destination.stage(&input.bytes)?;
     match undo {
-        Some(undo) => staged.commit_after(undo)?,
-        None => staged.commit()?,
+        Some(undo) => {
+            let undo = undo.stage(change.undo(&former, &input.name, &shown(target))?.as_bytes())?;
+            destination.stage(&input.bytes)?.commit_after(undo)?;
+        }
+        None => destination.stage(&input.bytes)?.commit()?,
     }
     writeln!(out, "track {track} revolution {revolution} of {} rewritten in {}", input.name, shown(target))?;
     let kept = match arguments.value("--undo") {
@@ -71,6 +62,16 @@ fn run(arguments: &Arguments, out: &mut dyn Write) -> Result<(), Failure> {
     };
     say(out, &change, &kept)?;
     Ok(say_change(out, &before, &after)?)
+}
+
+/// Rewrites the revolution in memory; words that are refused are a fault of the file that they come from.
+fn rewrite(input: &mut Input, source: &Input, change: &Change, words: &[u8]) -> Result<(), Failure> {
+    let asked = Asked { track: change.track, revolution: change.revolution, size: words.len() };
+    let done = scp::rewrite(&mut input.bytes, asked.track, asked.revolution, change.duration.1, words);
+    done.map_err(|refusal| match refusal.reason {
+        Reason::Words => source.failure(reasons::of_asked(&input.bytes, asked, refusal)),
+        _ => input.refused(asked, refusal),
+    })
 }
 
 /// Says what changed, and what cannot be taken back.
@@ -105,11 +106,15 @@ impl Form {
         }
     }
 
-    /// The new words as bytes, for a revolution of so many.
-    fn words(&self, source: &Input, most: u32) -> Result<Vec<u8>, Failure> {
-        match self {
-            Form::Times(unit) => words_of_times(source, *unit, most),
-            Form::Words => Ok(source.bytes.clone()),
+    /// The new words as bytes, for a revolution of so many; none only where that is allowed.
+    fn words(&self, source: &Input, most: u32, empty: bool) -> Result<Vec<u8>, Failure> {
+        let words = match self {
+            Form::Times(unit) => words_of_times(source, *unit, most)?,
+            Form::Words => source.copy()?,
+        };
+        if words.is_empty() && !empty {
+            return Err(Failure::usage(format!("{}: there is nothing in it (--empty is for a revolution without words)", source.name)));
         }
+        Ok(words)
     }
 }

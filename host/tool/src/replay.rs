@@ -2,7 +2,7 @@
 
 use std::io::Write;
 
-use scp::{Answer, Call};
+use scp::{Answer, Call, Refusal};
 
 use crate::arguments::{Arguments, Command};
 use crate::checksum::{say_change, Checksum};
@@ -17,6 +17,17 @@ use crate::undo::{kept, Change};
 pub const COMMAND: Command =
     Command { name: "replay", flags: &["--force", "--in-place"], values: &["--out"], help: include_str!("help/replay.txt"), run };
 
+/// What became of the calls.
+#[derive(Default)]
+struct Outcome {
+    /// Whether some call is refused.
+    refused: bool,
+    /// Whether some rewrite is.
+    unmade: bool,
+    /// The lines of the rewrites that made their revolution shorter.
+    shorter: Vec<usize>,
+}
+
 /// Runs all calls on the image in memory, prints their answers, and writes the image where that is asked for.
 fn run(arguments: &Arguments, out: &mut dyn Write) -> Result<(), Failure> {
     let [file, calls] = arguments.operands(["FILE", "CALLS"])?;
@@ -28,44 +39,52 @@ fn run(arguments: &Arguments, out: &mut dyn Write) -> Result<(), Failure> {
     }
     let text = Input::read_all(calls)?;
     let mut input = Input::read_image(file, arguments.has("--in-place"))?;
-    let destination = match target {
-        Some(target) => Some(Destination::new(target, &[&input, &text], arguments, Kind::Image)?),
-        None => None,
-    };
+    let destination = target.map(|target| Destination::new(target, &[&input, &text], arguments, Kind::Image)).transpose()?;
     if destination.is_some() {
         input = input.uncut()?;
     }
     let (lines, calls) = read_calls(&text)?;
-    let before = Checksum::of(&input.bytes);
-    let mut image = input.copy()?;
+    let (before, first) = (Checksum::of(&input.bytes), input.copy()?);
     let answers = scp::replay(&mut input.bytes, &calls);
-    let (mut refused, mut unmade, mut shorter) = (false, false, Vec::new());
-    for ((line, call), answer) in lines.iter().zip(&calls).zip(answers) {
-        refused |= answer.is_err();
-        unmade |= answer.is_err() && matches!(call, Call::Rewrite { .. });
-        let answer = answer.map_or_else(|refusal| reasons::of_asked(&image, asked(call), refusal), say_answer);
-        writeln!(out, "{line}: {}: {answer}", say_call(call))?;
-        if follow(&mut image, call) {
-            shorter.push(line);
-        }
-    }
+    let outcome = say_answers(first, (&lines, &calls), answers, out)?;
     if let (Some(destination), Some(target)) = (destination, target) {
-        if unmade {
+        if outcome.unmade {
             return Err(Failure::refused(format!("{}: not written, since a rewrite is refused", shown(target))));
         }
         destination.stage(&input.bytes)?.commit()?;
         writeln!(out, "written to {}", shown(target))?;
-        for line in shorter {
+        for line in &outcome.shorter {
             writeln!(out, "{line}: {}; its former words {}", Change::SHORTER, kept(arguments, &input))?;
         }
         if let (Ok(before), Ok(after)) = (before, Checksum::of(&input.bytes)) {
             say_change(out, &before, &after)?;
         }
     }
-    match refused {
+    match outcome.refused {
         true => Err(Failure::Said(Status::Refused)),
         false => Ok(()),
     }
+}
+
+/// Prints a line for each call. The rewrites are made once more on the first image, so that the reason of a refusal is looked up in the bytes
+/// that it is about.
+fn say_answers(
+    mut image: Vec<u8>,
+    (lines, calls): (&[usize], &[Call]),
+    answers: Vec<Result<Answer, Refusal>>,
+    out: &mut dyn Write,
+) -> Result<Outcome, Failure> {
+    let mut outcome = Outcome::default();
+    for ((&line, call), answer) in lines.iter().zip(calls).zip(answers) {
+        outcome.refused |= answer.is_err();
+        outcome.unmade |= answer.is_err() && matches!(call, Call::Rewrite { .. });
+        let answer = answer.map_or_else(|refusal| reasons::of_asked(&image, asked(call), refusal), say_answer);
+        writeln!(out, "{line}: {}: {answer}", say_call(call))?;
+        if follow(&mut image, call) {
+            outcome.shorter.push(line);
+        }
+    }
+    Ok(outcome)
 }
 
 /// What a call asks of an image.
@@ -81,8 +100,7 @@ fn asked(call: &Call) -> Asked {
     Asked { track, revolution, size }
 }
 
-/// Makes a call once more on a copy of the image, so that the reason of the next refusal is looked up in the bytes that it was about; gives
-/// whether it made its revolution shorter.
+/// Makes a call once more, if it is a rewrite; gives whether it made its revolution shorter.
 fn follow(image: &mut [u8], call: &Call) -> bool {
     let Call::Rewrite { track, revolution, duration, words } = call else { return false };
     let before = scp::revolution(image, *track, *revolution).map_or(0, |found| found.words as usize);
