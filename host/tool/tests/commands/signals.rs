@@ -15,7 +15,7 @@ const STOP: i32 = 19;
 const GO_ON: i32 = 18;
 
 /// How long the file is that takes a while to be written.
-const LONG: u64 = 48 << 20;
+const LONG: u64 = 12 << 20;
 
 /// How often a moment between making and naming the temporary file is tried for.
 const ATTEMPTS: usize = 50;
