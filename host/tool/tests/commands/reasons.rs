@@ -181,6 +181,20 @@ fn a_rewrite_that_is_refused_is_told() {
 }
 
 #[test]
+fn a_time_that_no_words_express_is_told_with_its_line() {
+    let bench = Bench::new();
+    for (time, said) in [
+        ("0", "0 ticks, where 1 is the least"),
+        ("131072", "131,072 ticks, a multiple of 65,536, which no word closes"),
+        ("4294967296", "4,294,967,296 ticks, above 4,294,967,295"),
+    ] {
+        bench.put("times.txt", format!("160\n{time}\n").as_bytes());
+        let line = "patch a.scp b.scp 0 0 --duration keep --times times.txt";
+        bench.fails(line, 1, &format!("times.txt: line 2: refused 16 Time: {said}\n"));
+    }
+}
+
+#[test]
 fn a_wrong_number_of_revolutions_makes_no_other_faults() {
     let bench = Bench::new();
     for revolutions in [0, 6, 200, 255] {
