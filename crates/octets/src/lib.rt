@@ -227,7 +227,7 @@ pub fn put_le64(bytes: &mut [u8], at: usize, value: i64) -> bool
     whole
 }
 
-// ---- the byte sum
+// ---- the byte sum: 16 bits hold a block's sum, 32 the total, which wraps; no total has 64 (N-9)
 
 // The sum of the 256 bytes from `at` on: 16 bits hold it, so the compiler sums in lanes of 16 bits.
 fn block_sum(bytes: &[u8], at: usize) -> u16

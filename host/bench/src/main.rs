@@ -9,7 +9,7 @@ mod plain;
 
 use scp::raw;
 use scp_compare::image::flux_bytes;
-use scp_compare::outside::{flux_words, image, Style, CAPTURE, READ_WRITE};
+use scp_compare::outside::{flux_words, image, image_a_with_flux, Style, CAPTURE, READ_WRITE};
 use scp_compare::random::Random;
 use std::hint::black_box;
 use std::time::Instant;
@@ -18,6 +18,7 @@ fn main() {
     let rounds = std::env::args().nth(1).and_then(|word| word.parse().ok()).unwrap_or(31).max(3);
     println!("{:<58} {:>7} {:>16}", "library beside plain Rust", "ratio", "spread");
     validate(rounds);
+    summing(rounds);
     question(rounds);
     reading(rounds);
     writing(rounds);
@@ -58,6 +59,21 @@ fn validate(rounds: usize) {
         0
     };
     ratio("validate 200 MiB, beside a plain read of the memory", rounds.min(15), 1, library, read);
+}
+
+/// The byte sum of 256 KiB of flux, which the cache holds: a row of a replay.
+fn summing(rounds: usize) {
+    let mut mine = image_a_with_flux(&Random::new(4).bytes(1 << 18));
+    let other = mine.clone();
+    let library = || {
+        let mut row = [0; 16];
+        raw::replay(black_box(&mut mine), &[5, 0, 0, 0, 0, 0], &[], &mut row) + row[0] + row[4]
+    };
+    let plain = || match plain::flux_sum(black_box(&other), 0, 0) {
+        Ok(sum) => sum.into(),
+        Err(refused) => code::<()>(Err(refused)),
+    };
+    ratio("sum 256 KiB of flux, as a row of a replay", rounds, 200, library, plain);
 }
 
 /// Opening an image of 80 tracks and asking one question.

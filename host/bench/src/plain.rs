@@ -137,6 +137,13 @@ pub fn revolution(image: &[u8], track: u32, revolution: u32) -> Result<Revolutio
     find(image, &open(image)?, track, revolution)
 }
 
+/// The byte sum of a revolution's flux.
+#[inline(never)]
+pub fn flux_sum(image: &[u8], track: u32, k: u32) -> Result<u32, Refused> {
+    let found = revolution(image, track, k)?;
+    Ok(byte_sum(&image[found.place as usize..][..2 * found.words as usize]))
+}
+
 /// A revolution of an opened image.
 fn find(image: &[u8], table: &[u32; 168], track: u32, revolution: u32) -> Result<Revolution, Refused> {
     let entry = table.get(track as usize).copied().filter(|&entry| entry != 0).ok_or((13, 0))?;

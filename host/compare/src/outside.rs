@@ -1,6 +1,6 @@
 //! Images laid out as real tools write them, and the worked examples of the public text.
 
-use crate::image::{FooterPart, Layout, Parts, RevolutionPart, TrackPart};
+use crate::image::{set, store_checksum, FooterPart, Layout, Parts, RevolutionPart, TrackPart};
 use crate::random::Random;
 
 /// Cells of a double-density disk at 25 ns: intervals of 4, 6 and 8 µs with some jitter, now and then a long gap.
@@ -84,4 +84,15 @@ pub fn image(style: &Style, words: usize) -> Vec<u8> {
         layout: Layout::InOrder,
     };
     parts.build(&mut random).image
+}
+
+/// Image A with other flux, and its checksum.
+pub fn image_a_with_flux(flux: &[u8]) -> Vec<u8> {
+    let (count, place) = (696, 704);
+    let mut image = scp::example::image_a();
+    image.truncate(place);
+    image.extend_from_slice(flux);
+    set(&mut image, count, &(flux.len() as u32 / 2).to_le_bytes());
+    store_checksum(&mut image);
+    image
 }
