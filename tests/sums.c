@@ -99,7 +99,7 @@ int main(void) {
     known(full);
     free(full);
     if (failures == 0) {
-        printf("the byte sum by itself: as a plain sum on %lu lengths; 16,843,010 bytes of 0xFF give 254\n", compared);
+        printf("the byte sum by itself: %lu sums as a plain sum gives them; 16,843,010 bytes of 0xFF give 254\n", compared);
     }
     return failures != 0;
 }

@@ -1,4 +1,4 @@
-// Numbers in bytes, read and put, and the byte sum (N-1 to N-6). Each function is total: past the end a byte reads 0, and a number that
+// Numbers in bytes, read and put, and the byte sum (N-1 to N-6, N-9). Each function is total: past the end a byte reads 0, and a number that
 // does not fit whole is not put.
 ghost use mathlib.Core.Path.{_≡_};
 ghost use mathlib.Core.List.{[], _∷_};
