@@ -147,6 +147,16 @@ le-of-bytes (suc n) v =
     let e : v % (256 ^ n * 256) ≡ (v / 256 % 256 ^ n) * 256 + v % 256 = mod-mul v (one-le-pow n 256 (omega arith)) (omega arith) in
     rw (pow-suc 256 n) (omega (arith, e, le-cons n (v % 256) (leBytes n (v / 256)) 0, le-of-bytes n (v / 256)))
 
+-- The n lower bytes of a number are those of what n bytes hold of it.
+pub le-bytes-low : (n v : ℕ) → leBytes n (v % 256 ^ n) ≡ leBytes n v
+unfolding leBytes
+le-bytes-low zero v = refl
+le-bytes-low (suc n) v =
+    let e : v % (256 ^ n * 256) ≡ (v / 256 % 256 ^ n) * 256 + v % 256 = mod-mul v (one-le-pow n 256 (omega arith)) (omega arith) in
+    let low : v % (256 ^ n * 256) % 256 ≡ v % 256 = omega (arith, e) in
+    let high : v % (256 ^ n * 256) / 256 ≡ v / 256 % 256 ^ n = omega (arith, e) in
+    rw (pow-suc 256 n, low, high) (ap (_∷_ (v % 256)) (le-bytes-low n (v / 256)))
+
 -- A number that was put is read back, up to what n bytes hold.
 pub le-read-back : (n v : ℕ) (b : List ℕ) (i : ℕ) → i + n ≤ length b → leAt n (sets b i (leBytes n v)) i ≡ v % 256 ^ n
 le-read-back n v b i h =

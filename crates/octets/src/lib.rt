@@ -66,24 +66,24 @@ fn pair(hi: u8, lo: u8) -> u16
 }
 
 // The number of four bytes, the lowest first.
-fn quad(b0: u8, b1: u8, b2: u8, b3: u8) -> u64
-    ensures { λ r. ⌜ (r ≡ b0 + 256 * b1 + 65_536 * b2 + 16_777_216 * b3) × (r < 4_294_967_296) ⌝ }
+fn quad(b0: u8, b1: u8, b2: u8, b3: u8) -> u32
+    ensures { λ r. ⌜ r ≡ b0 + 256 * b1 + 65_536 * b2 + 16_777_216 * b3 ⌝ }
 {
-    b0 as u64 + 256 * (b1 as u64) + 65_536 * (b2 as u64) + 16_777_216 * (b3 as u64)
+    b0 as u32 + 256 * (b1 as u32) + 65_536 * (b2 as u32) + 16_777_216 * (b3 as u32)
 }
 
 // The four bytes from `at` on, all of which are there.
-fn four(bytes: &[u8], at: usize) -> u64
+fn four(bytes: &[u8], at: usize) -> u32
     requires { ⌜ at + 4 ≤ length (now bytes) ⌝ }
-    ensures { λ r. ⌜ (r ≡ leAt 4 (now (bytes .entry)) at) × (r < 4_294_967_296) ⌝ }
+    ensures { λ r. ⌜ r ≡ leAt 4 (now (bytes .entry)) at ⌝ }
 {
     quad(bytes[at], bytes[at + 1], bytes[at + 2], bytes[at + 3])
 }
 
 // The four bytes from `k` after `at` on; past the end a byte counts 0.
-fn four_after(bytes: &[u8], at: usize, k: usize) -> u64
+fn four_after(bytes: &[u8], at: usize, k: usize) -> u32
     requires { ⌜ k ≤ 4 ⌝ }
-    ensures { λ r. ⌜ (r ≡ leAt 4 (now (bytes .entry)) (at + k)) × (r < 4_294_967_296) ⌝ }
+    ensures { λ r. ⌜ r ≡ leAt 4 (now (bytes .entry)) (at + k) ⌝ }
 {
     let b0 = byte_after(bytes, at, k);
     let b1 = byte_after(bytes, at, k + 1);
@@ -119,9 +119,9 @@ pub fn le32(bytes: &[u8], at: usize) -> u32
     ensures { λ r. ⌜ r ≡ le32At (now (bytes .entry)) at ⌝ }
 {
     if room(bytes.len(), at, 4) {
-        return four(bytes, at) as u32;
+        return four(bytes, at);
     }
-    four_after(bytes, at, 0) as u32
+    four_after(bytes, at, 0)
 }
 
 // A number of 64 bits taken as two's complement.
@@ -134,14 +134,21 @@ fn signed(v: u64) -> i64
     !((18_446_744_073_709_551_615 - v) as i64)
 }
 
+// The number of 64 bits with these halves.
+fn joined(low: u32, high: u32) -> u64
+    ensures { λ r. ⌜ r ≡ low + 4_294_967_296 * high ⌝ }
+{
+    low as u64 + 4_294_967_296 * (high as u64)
+}
+
 // 64 bits, signed, little endian.
 pub fn le64(bytes: &[u8], at: usize) -> i64
     ensures { λ r. ⌜ r ≡ le64At (now (bytes .entry)) at ⌝ }
 {
     if room(bytes.len(), at, 8) {
-        return signed(four(bytes, at) + 4_294_967_296 * four(bytes, at + 4));
+        return signed(joined(four(bytes, at), four(bytes, at + 4)));
     }
-    signed(four_after(bytes, at, 0) + 4_294_967_296 * four_after(bytes, at, 4))
+    signed(joined(four_after(bytes, at, 0), four_after(bytes, at, 4)))
 }
 
 // ---- putting
@@ -156,8 +163,8 @@ pub fn unsigned(v: i64) -> u64
     v as u64
 }
 
-// Stores the lower four bytes of `v` from `at` on.
-fn store_four(bytes: &mut [u8], at: usize, v: u64)
+// Stores the four bytes of `v` from `at` on.
+fn store_four(bytes: &mut [u8], at: usize, v: u32)
     requires { ⌜ at + 4 ≤ length (now bytes) ⌝ }
     ensures { λ _. ⌜ now (bytes .exit) ≡ sets (now (bytes .entry)) at (leBytes 4 v) ⌝ }
 {
@@ -207,7 +214,7 @@ pub fn put_le32(bytes: &mut [u8], at: usize, value: u32) -> bool
     let n = bytes.len();
     let fits = room(n, at, 4);
     if fits {
-        store_four(bytes, at, value as u64);
+        store_four(bytes, at, value);
     }
     fits
 }
@@ -221,8 +228,8 @@ pub fn put_le64(bytes: &mut [u8], at: usize, value: i64) -> bool
     let whole = room(n, at, 8);
     if whole {
         let v = unsigned(value);
-        store_four(bytes, at, v);
-        store_four(bytes, at + 4, v / 4_294_967_296);
+        store_four(bytes, at, (v % 4_294_967_296) as u32);
+        store_four(bytes, at + 4, (v / 4_294_967_296) as u32);
     }
     whole
 }

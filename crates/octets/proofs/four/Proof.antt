@@ -34,7 +34,7 @@ quad-requires c κs = search needs
 returns : tie.Need-returns
 returns c =
     let a = c .before .before .before .before .before .before .args in
-    (omega (arith, c .quad .ensures .0, le-four (a .bytes .now) (a .at) (a .at + 1) (a .at + 2) (a .at + 3) refl refl refl), search needs)
+    omega (arith, c .quad .ensures, le-four (a .bytes .now) (a .at) (a .at + 1) (a .at + 2) (a .at + 3) refl refl refl)
 
 pub four-spec : {M : Type 1} → statement M
 four-spec =

@@ -32,13 +32,11 @@ quad-requires c κs = search needs
 
 returns : tie.Need-returns
 returns c =
-    let a = c .before .before .before .before .before .before .args in (
-      omega (
-        arith,
-        c .quad .ensures .0,
-        le-four (a .bytes .now) (a .at + a .k) (a .at + (a .k + 1)) (a .at + (a .k + 2)) (a .at + (a .k + 3)) (omega arith) (omega arith) (omega arith),
-      ),
-      search needs,
+    let a = c .before .before .before .before .before .before .args in
+    omega (
+      arith,
+      c .quad .ensures,
+      le-four (a .bytes .now) (a .at + a .k) (a .at + (a .k + 1)) (a .at + (a .k + 2)) (a .at + (a .k + 3)) (omega arith) (omega arith) (omega arith),
     )
 
 pub four-after-spec : {M : Type 1} → statement M

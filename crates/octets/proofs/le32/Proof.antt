@@ -20,22 +20,16 @@ room-requires c κs = search needs
 four-requires : tie.Need-four-requires
 four-requires c κs = there c
 
-cast-result : tie.Need-cast-result
-cast-result c = search needs
-
 returns : tie.Need-returns
 returns c = search needs
 
 four-after-requires : tie.Need-four-after-requires
 four-after-requires c κs = search needs
 
-cast-result-2 : tie.Need-cast-result-2
-cast-result-2 c = search needs
-
 returns-2 : tie.Need-returns-2
 returns-2 c =
     let a = c .before .before .before .before .args in
-    omega (arith, c .four-after .ensures .0, ap (leAt 4 (a .bytes .now)) (add-zero (a .at)))
+    omega (arith, c .four-after .ensures, ap (leAt 4 (a .bytes .now)) (add-zero (a .at)))
 
 pub le32-spec : {M : Type 1} → statement M
 le32-spec =
@@ -43,8 +37,6 @@ le32-spec =
     (tie.spec
     room-requires
     four-requires
-    cast-result
     returns
     four-after-requires
-    cast-result-2
     returns-2)

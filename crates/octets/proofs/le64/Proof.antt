@@ -33,18 +33,15 @@ add-four c = omega (arith, there (c .before))
 four-requires-2 : tie.Need-four-requires-2
 four-requires-2 c κs = omega (arith, there (c .before))
 
-mul-signed : tie.Need-mul-signed
-mul-signed c = search needs
-
-add-signed : tie.Need-add-signed
-add-signed c = search needs
+joined-requires : tie.Need-joined-requires
+joined-requires c κs = search needs
 
 signed-requires : tie.Need-signed-requires
 signed-requires c κs = search needs
 
 returns : tie.Need-returns
 returns c =
-    let a = c .before .before .before .before .before .before .args in
+    let a = c .before .before .before .before .before .before .before .args in
     toZ-ofZ {w = w64} (record { sfits = c .signed .ok })
     ∙ signed-same (c .signed .ensures) (omega (arith, le-split 4 4 (a .bytes .now) (a .at)))
 
@@ -54,18 +51,15 @@ four-after-requires c κs = search needs
 four-after-requires-2 : tie.Need-four-after-requires-2
 four-after-requires-2 c κs = search needs
 
-mul-signed-2 : tie.Need-mul-signed-2
-mul-signed-2 c = search needs
-
-add-signed-2 : tie.Need-add-signed-2
-add-signed-2 c = search needs
+joined-requires-2 : tie.Need-joined-requires-2
+joined-requires-2 c κs = search needs
 
 signed-requires-2 : tie.Need-signed-requires-2
 signed-requires-2 c κs = search needs
 
 returns-2 : tie.Need-returns-2
 returns-2 c =
-    let a = c .before .before .before .before .before .before .args in
+    let a = c .before .before .before .before .before .before .before .args in
     let low = ap (leAt 4 (a .bytes .now)) (add-zero (a .at)) in
     toZ-ofZ {w = w64} (record { sfits = c .signed2 .ok })
     ∙ signed-same (c .signed2 .ensures) (omega (arith, low, le-split 4 4 (a .bytes .now) (a .at)))
@@ -78,13 +72,11 @@ le64-spec =
     four-requires
     add-four
     four-requires-2
-    mul-signed
-    add-signed
+    joined-requires
     signed-requires
     returns
     four-after-requires
     four-after-requires-2
-    mul-signed-2
-    add-signed-2
+    joined-requires-2
     signed-requires-2
     returns-2)
