@@ -34,10 +34,6 @@ lastTrack = trackSlots - 1
 abbrev pub tableEnd : ℕ
 tableEnd = tableAt + 4 * trackSlots
 
--- L-3: the most revolutions of a track.
-abbrev pub mostRevolutions : ℕ
-mostRevolutions = 5
-
 -- L-17, L-21: the bytes of the footer.
 abbrev pub footerSize : ℕ
 footerSize = 48

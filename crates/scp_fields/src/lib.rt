@@ -47,10 +47,8 @@ pub const LAST_TRACK: usize = TRACK_SLOTS - 1;
 
 pub const TABLE_END: usize = TABLE_AT + 4 * TRACK_SLOTS;
 
-// The most bytes of an image (R-1), and the most revolutions of a track (L-3).
+// The most bytes of an image (R-1).
 pub const SIZE_LIMIT: usize = 268_435_456;
-
-pub const MOST_REVOLUTIONS: usize = 5;
 
 // The bytes of the footer, the least length of an image that has one, and its strings (L-21, L-22).
 pub const FOOTER_SIZE: usize = 48;

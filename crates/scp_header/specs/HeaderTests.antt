@@ -5,7 +5,7 @@ use mathlib.Core.Bool.{Bool, not, _&&_, _||_}
 use lib.ListN.{length}
 use lib.Dec.{eqb, ltb}
 use Rattle.octets.specs.Numbers.{byteAt}
-use Rattle.scp_fields.specs.Header.{sizeLimit, tableEnd, lastTrack, mostRevolutions, revolutions, startTrack, endTrack, readWrite, width, heads}
+use Rattle.scp_fields.specs.Header.{sizeLimit, tableEnd, lastTrack, revolutions, startTrack, endTrack, readWrite, width, heads}
 
 -- R-1, Size: the length is below 688 or above 268,435,456.
 unfoldable pub badSize : List ℕ → Bool
@@ -19,10 +19,9 @@ badSign b = not (eqb (byteAt b 0) 0x53 && (eqb (byteAt b 1) 0x43 && eqb (byteAt 
 abbrev pub badWidth : List ℕ → Bool
 badWidth b = not (eqb (width b) 0 || eqb (width b) 16)
 
--- R-4, Revolutions: R is not 1 to 5, or the image is read/write and R is not 1.
+-- R-4, Revolutions: R is 0, or the image is read/write and R is above 1.
 abbrev pub badRevolutions : List ℕ → Bool
-badRevolutions b =
-    ltb (revolutions b) 1 || (ltb mostRevolutions (revolutions b) || (readWrite b && not (eqb (revolutions b) 1)))
+badRevolutions b = eqb (revolutions b) 0 || (readWrite b && ltb 1 (revolutions b))
 
 -- R-5, Span: the start track is above the end track, or the end track is above 167.
 abbrev pub badSpan : List ℕ → Bool

@@ -28,7 +28,7 @@ fn bad_revolutions(image: &[u8]) -> bool
 {
     let n = scp_fields::revolutions(image);
     let read_write = scp_fields::is_read_write(image);
-    (n < 1) | ((scp_fields::MOST_REVOLUTIONS < n) | (read_write & !(n == 1)))
+    (n == 0) | (read_write & (1 < n))
 }
 
 fn bad_span(image: &[u8]) -> bool

@@ -12,7 +12,7 @@ use borrow.Author.Tests.{ltb-false, le-ltb, eqb-true, eqb-false, eq-eqb, ne-eqb,
 use Rattle.refusals.specs.declared.Refusal.{Refusal}
 use Rattle.octets.specs.Numbers.{byteAt, le16At}
 use Rattle.refusals.specs.Refusals.{none}
-use Rattle.scp_fields.specs.Header.{tableEnd, sizeLimit, trackSlots, lastTrack, mostRevolutions, revolutions, startTrack, endTrack, readWrite, hasFooter, width, heads, trackEntry, dataEnd}
+use Rattle.scp_fields.specs.Header.{tableEnd, sizeLimit, trackSlots, lastTrack, revolutions, startTrack, endTrack, readWrite, hasFooter, width, heads, trackEntry, dataEnd}
 use Rattle.scp_header.specs.HeaderTests.{badSize, badSign, badWidth, badRevolutions, badSpan, badHeads}
 use Rattle.scp_fields.specs.Footer.{footerAt, footerLeast, stringSlots, stringEntry}
 use Rattle.scp_footer.specs.Footer.{badFooter, zeroAt, zeroWithin, badStringOf, badString, stringFaultAt, stringFault, stringsFault, footerFault}
@@ -177,17 +177,16 @@ module _ (b : List ℕ) where
       let span = not-refused (badSpan b) 4 0 _ (turns .1) in
       let sides = not-refused (badHeads b) 5 0 (footerFault b) (span .1) in
       let lengths = neither (ltb (length b) tableEnd) _ (size .0) in
-      let some = neither (ltb (revolutions b) 1) _ (turns .0) in
-      let few = neither (ltb mostRevolutions (revolutions b)) _ (some .1) in
+      let some = neither (eqb (revolutions b) 0) _ (turns .0) in
+      let nonzero = eqb-false (revolutions b) 0 (some .0) in
       let ends = neither (ltb (endTrack b) (startTrack b)) _ (span .0) in
       record {
         least = ltb-false _ tableEnd (lengths .0);
         most = ltb-false sizeLimit _ (lengths .1);
         sign = three-marked _ 0x53 _ 0x43 _ 0x50 (not-false _ (sign .0));
         wordWidth = ⊎-map (eqb-true _ 0) (eqb-true _ 16) (either (eqb (width b) 0) _ (not-false _ (words .0)));
-        revolutionsLeast = ltb-false _ 1 (some .0);
-        revolutionsMost = ltb-false mostRevolutions _ (few .0);
-        readWriteOne = λ w. eqb-true _ 1 (not-false _ (not-both (readWrite b) _ (few .1) w));
+        revolutionsLeast = omega arith;
+        readWriteOne = λ w. let single = ltb-false 1 (revolutions b) (not-both (readWrite b) _ (some .1) w) in omega arith;
         span = ltb-false _ (startTrack b) (ends .0);
         spanEnd = let h = ltb-false lastTrack (endTrack b) (ends .1) in omega arith;
         sides = ltb-false 2 _ (sides .0);
@@ -198,13 +197,14 @@ module _ (b : List ℕ) where
   pub clears : Opens b → openFault b .number ≡ 0
   unfolding openFault headFault badSize
   clears h =
-      let turns : readWrite b && not (eqb (revolutions b) 1) ≡ false = never-both (readWrite b) _ (λ w. simp (h .readWriteOne w)) in
+      let some : revolutions b ≢ 0 = λ z. omega arith in
+      let turns : readWrite b && ltb 1 (revolutions b) ≡ false = never-both (readWrite b) _ (λ w. simp (h .readWriteOne w)) in
       let last : endTrack b ≤ lastTrack = omega arith in
       clear-both (headFault b) (tracksFault b)
       (pass (badSize b) _ _ (simp (le-ltb _ _ (h .least), le-ltb _ _ (h .most)))
       (pass (badSign b) _ _ (simp (h .sign .0, h .sign .1, h .sign .2))
       (pass (badWidth b) _ _ (elim (h .wordWidth) [ inl w ↦ simp w | inr w ↦ simp w ])
-      (pass (badRevolutions b) _ _ (simp (le-ltb _ _ (h .revolutionsLeast), le-ltb _ _ (h .revolutionsMost), turns))
+      (pass (badRevolutions b) _ _ (simp (ne-eqb _ _ some, turns))
       (pass (badSpan b) _ _ (simp (le-ltb _ _ (h .span), le-ltb _ _ last))
       (pass (badHeads b) _ _ (le-ltb _ _ (h .sides))
       (footer-holds b .1 (h .footer))))))))

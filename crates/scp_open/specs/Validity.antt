@@ -8,7 +8,7 @@ use mathlib.Core.Bool.{true}
 use lib.ListN.{length}
 use Rattle.octets.specs.Numbers.{byteAt, le16At}
 use Rattle.refusals.specs.Refusals.{none}
-use Rattle.scp_fields.specs.Header.{sizeLimit, tableEnd, trackSlots, mostRevolutions, revolutions, startTrack, endTrack, readWrite, hasFooter, width, heads, trackEntry, dataEnd}
+use Rattle.scp_fields.specs.Header.{sizeLimit, tableEnd, trackSlots, revolutions, startTrack, endTrack, readWrite, hasFooter, width, heads, trackEntry, dataEnd}
 use Rattle.scp_fields.specs.Footer.{footerAt, footerLeast, stringSlots, stringEntry}
 use Rattle.scp_tracks.specs.Tracks.{headOf, headerSize, countAt, fluxAt}
 use Rattle.scp_open.specs.Opening.{openFault}
@@ -49,7 +49,6 @@ pub record Opens (b : List ℕ) : Type 0 where
   pub sign : (byteAt b 0 ≡ 0x53) × (byteAt b 1 ≡ 0x43) × (byteAt b 2 ≡ 0x50)
   pub wordWidth : (width b ≡ 0) ⊎ (width b ≡ 16)
   pub revolutionsLeast : 1 ≤ revolutions b
-  pub revolutionsMost : revolutions b ≤ mostRevolutions
   pub readWriteOne : readWrite b ≡ true → revolutions b ≡ 1
   pub span : startTrack b ≤ endTrack b
   pub spanEnd : endTrack b < trackSlots

@@ -174,7 +174,6 @@ module _ (b q : List ℕ) (t k d : ℕ) (ws : List ℕ) (a : Accepted b t k ws) 
         sign = (low 0 (omega arith) ∙ o .sign .0, low 1 (omega arith) ∙ o .sign .1, low 2 (omega arith) ∙ o .sign .2);
         wordWidth = rw (low 9 (omega arith)) (o .wordWidth);
         revolutionsLeast = rw same-revolutions (o .revolutionsLeast);
-        revolutionsMost = rw same-revolutions (o .revolutionsMost);
         readWriteOne = λ w. same-revolutions ∙ o .readWriteOne (sym same-readWrite ∙ w);
         span = rw (low 6 (omega arith), low 7 (omega arith)) (o .span);
         spanEnd = rw (low 7 (omega arith)) (o .spanEnd);
