@@ -123,7 +123,7 @@ fn signed64(bytes: &[u8], place: u64) -> Option<i64> {
     array(bytes, place).map(i64::from_le_bytes)
 }
 
-/// The rules, refusals 1 to 6, in this order.
+/// The rules, refusals 1 to 6, in this order; 4 is for 0 revolutions, or for read/write with more than one.
 fn parse_header(image: &[u8]) -> Result<Header, Refusal> {
     let length = image.len() as u64;
     if !(FIRST..=GREATEST).contains(&length) {
@@ -136,8 +136,7 @@ fn parse_header(image: &[u8]) -> Result<Header, Refusal> {
     if header.width != 0 && header.width != 16 {
         return Err(refuse(3));
     }
-    let single = header.revolutions == 1;
-    if !(1..=5).contains(&header.revolutions) || (flag(&header, 4) && !single) {
+    if header.revolutions == 0 || (flag(&header, 4) && header.revolutions > 1) {
         return Err(refuse(4));
     }
     if header.start > header.end || u32::from(header.end) >= TRACKS {

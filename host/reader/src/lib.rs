@@ -1,7 +1,7 @@
 //! A plain reader for SuperCard Pro (SCP) flux images.
 //!
 //! An image is first parsed into owned structures; every question is then answered from these.
-//! "The rules" in the comments are the paper of exact rules for this format.
+//! "The rules" in the comments are the paper of exact rules for this format, with request Q-2: 1 to 255 revolutions.
 
 #![forbid(unsafe_code)]
 

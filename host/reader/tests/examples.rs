@@ -72,6 +72,24 @@ fn put_revolution(image: &mut [u8], place: usize, fields: [u32; 3]) {
     }
 }
 
+/// A read-only image of track 0 alone, whose revolution k has duration k and the one word k + 1.
+/// Track data header at 688, 4 + 12R bytes; then the flux, 2 bytes for each revolution; the checksum is right.
+fn revolutions_of_track_0(count: u8) -> Vec<u8> {
+    let length = 4 + 12 * u32::from(count);
+    let mut image = vec![0; 688 + length as usize];
+    put(&mut image, 0, &[b'S', b'C', b'P', 0x16, 0, count]);
+    put(&mut image, 0x10, &688_u32.to_le_bytes());
+    put(&mut image, 688, b"TRK\x00");
+    for number in 0..count {
+        let fields = [u32::from(number), 1, length + 2 * u32::from(number)];
+        put_revolution(&mut image, 692 + 12 * usize::from(number), fields);
+        image.extend([0, number + 1]);
+    }
+    let sum: u32 = image[0x10..].iter().map(|&byte| u32::from(byte)).sum();
+    put(&mut image, 0x0C, &sum.to_le_bytes());
+    image
+}
+
 /// A refusal.
 fn refused<T>(number: u32, position: u64) -> Result<T, Refusal> {
     Err(Refusal { number, position })
@@ -202,6 +220,8 @@ fn track_speed_is_slowest_then_fastest() {
     put(&mut image, 748, &[0xFF; 4]);
     let slow = 2_400_000_000.0 / 4_294_967_295.0;
     assert_eq!(track_speed(&image, 3), Ok(Some((slow, slow))));
+    // Durations 0 to 254.
+    assert_eq!(track_speed(&revolutions_of_track_0(255), 0), Ok(Some((2_400_000_000.0 / 254.0, 2_400_000_000.0))));
 }
 
 #[test]
@@ -281,10 +301,14 @@ fn refusal_3_width() {
 #[test]
 fn refusal_4_revolutions() {
     all_refuse(&a_with(5, &[0]), 4, 0);
-    all_refuse(&a_with(5, &[6]), 4, 0);
-    all_refuse(&a_with(5, &[2, 0, 0, 0x10]), 4, 0);
-    let bit3 = a_with(5, &[2, 0, 0, 0x08]);
-    all_refuse(&bit3, 10, 0);
+    for count in [0, 2, 255] {
+        all_refuse(&a_with(5, &[count, 0, 0, 0x10]), 4, 0);
+    }
+    // A has no room for a longer track data header; FLAGS bit 3 is not read/write.
+    for count in [2, 6, 9, 200, 255] {
+        all_refuse(&a_with(5, &[count, 0, 0, 0]), 10, 0);
+        all_refuse(&a_with(5, &[count, 0, 0, 0x08]), 10, 0);
+    }
 }
 
 #[test]
@@ -554,6 +578,68 @@ fn two_tracks_are_read_by_distance_from_the_track_data_header() {
     assert_eq!(track(&image, 3).unwrap().place, 732);
     assert_eq!(header(&image).unwrap().disk, 0x80);
     assert_eq!(flux(&image, 0, 2), refused(14, 0));
+}
+
+#[test]
+fn one_to_255_revolutions_are_read() {
+    // The first flux lies at 688 + 4 + 12R.
+    for (count, first) in [(1, 704), (5, 752), (6, 764), (9, 800), (200, 3_092), (255, 3_752)] {
+        let image = revolutions_of_track_0(count);
+        assert_eq!(validate(&image), Ok(()));
+        assert_eq!(header(&image).unwrap().revolutions, count);
+        assert_eq!(track(&image, 0).unwrap().revolutions, u32::from(count));
+        for number in 0..count {
+            let (asked, place) = (u32::from(number), first + 2 * u64::from(number));
+            assert_eq!(revolution(&image, 0, asked), Ok(Revolution { duration: asked, words: 1, place }));
+            assert_eq!(flux(&image, 0, asked), Ok(vec![0, number + 1]));
+        }
+        for absent in [u32::from(count), 255, 256] {
+            assert_eq!(revolution(&image, 0, absent), refused(14, 0));
+            assert_eq!(rewrite(&mut image.clone(), 0, absent, 0, &[]), refused(14, 0));
+        }
+    }
+}
+
+#[test]
+fn first_middle_and_last_of_255_revolutions_are_rewritten() {
+    let mut image = revolutions_of_track_0(255);
+    // Entry 178, sign 241, durations 32,385, counts 255, words 32,640, and the distances 3,064 to 3,572:
+    // four from 0x0BF8, 1,004 + 44; 128 from 0x0C00, 16,256 + 1,536; 123 from 0x0D00, 15,006 + 1,599.
+    assert_eq!(header(&image).unwrap().checksum, 101_144);
+    let mut expected = image.clone();
+    // The new bytes add up to 8, the former ones to 1, to 127 + 128 and to 254 + 255.
+    for (number, fields, place, checksum) in [(0, 692, 3_752, 101_151_u32), (127, 2_216, 4_006, 100_904), (254, 3_740, 4_260, 100_403)] {
+        assert_eq!(rewrite(&mut image, 0, number, 0x0102, &[2, 3]), Ok(()));
+        put(&mut expected, fields, &[2, 1]);
+        put(&mut expected, place, &[2, 3]);
+        put(&mut expected, 0x0C, &checksum.to_le_bytes());
+        assert_eq!(image, expected);
+        assert_eq!(validate(&image), Ok(()));
+        assert_eq!(flux(&image, 0, number), Ok(vec![2, 3]));
+    }
+}
+
+#[test]
+fn refusals_10_11_and_18_reach_the_last_of_255_revolutions() {
+    let sound = revolutions_of_track_0(255);
+    // The track data header ends at 3,752, the last flux at 4,262.
+    all_refuse(&sound[..3_751], 10, 0);
+    all_refuse(&sound[..3_752], 11, 0);
+    all_refuse(&sound[..4_261], 11, 0);
+    // Revolution 254 with the flux of revolution 0.
+    let mut same = sound.clone();
+    put(&mut same, 3_748, &3_064_u32.to_le_bytes());
+    refuses_as_shared(&same, 0, 254);
+    refuses_as_shared(&same, 0, 0);
+    accepts(&same, 0, 127);
+    // Revolution 0 with its flux on the duration, then on the distance of revolution 254.
+    let mut across = sound.clone();
+    put(&mut across, 700, &3_052_u32.to_le_bytes());
+    refuses_as_shared(&across, 0, 0);
+    refuses_as_shared(&across, 0, 254);
+    put(&mut across, 700, &3_060_u32.to_le_bytes());
+    refuses_as_shared(&across, 0, 0);
+    accepts(&across, 0, 254);
 }
 
 /// Runs calls on an image and compares the answers, each given without its closing zeros.
