@@ -30,12 +30,14 @@ ATTEMPTS = [
     (0, 4, 3, b''),
     (0, 5, 4, b'abc'),
     (0, 2**32 - 1, 5, b''),
+    (0, 127, 10, b'ab'),
+    (0, 254, 11, b'ab'),
     (1, 0, 6, b'ab'),
     (167, 0, 7, b''),
     (168, 5, 8, b'abc'),
     (2**32 - 1, 0, 9, b''),
 ]
-FOUR, TWO, NONE, ODD, FIVE, TURN_1, TURN_4, TURN_5, TURN_MAX, TRACK_1, TRACK_167, TRACK_168, TRACK_MAX = range(13)
+FOUR, TWO, NONE, ODD, FIVE, TURN_1, TURN_4, TURN_5, TURN_MAX, TURN_127, TURN_254, TRACK_1, TRACK_167, TRACK_168, TRACK_MAX = range(15)
 
 
 # ---- making images
@@ -82,6 +84,9 @@ def images():
     string = lambda count, place, number=0: one(count, place, strings=[(number, 720, b'x' * 7)])
     other = {t: 13 for t in (TRACK_1, TRACK_167, TRACK_168, TRACK_MAX)}
     turns_5 = [(100 + k, 1, 760 + 2 * k) for k in range(5)]
+    turns_255 = [(100 + k, 1, 3752 + 2 * k) for k in range(255)]
+    of_255 = lambda turns: laid({0: (688, turns)}, turns=255, length=4262)
+    first_and_last = {NONE: 18, TURN_1: 0, TURN_4: 0, TURN_127: 0, TURN_254: 18}
     return {
         'a': (A, {**fine, TURN_1: 14, TURN_4: 14, TURN_5: 14, TURN_MAX: 14, **other}),
         'damaged': (old['damaged'], fine),
@@ -95,13 +100,16 @@ def images():
         'type_bit_is_not_read_write': (one(4, 704, flags=9), fine),
         'no_tracks': (old['no_tracks'], {FOUR: 13, **other}),
         'five_words': (image({0: [(1, [1, 2, 3, 4, 5])]}), {**fine, FIVE: 0}),
+        'revolutions_6': (old['revolutions_6'], {FOUR: 17, NONE: 0, TURN_1: 0, TURN_4: 0, TURN_5: 17, TURN_127: 14}),
+        'revolutions_255': (old['revolutions_255'], {FOUR: 17, NONE: 0, TURN_1: 0, TURN_127: 0, TURN_254: 0, TURN_MAX: 14}),
         'track_167': (image({0: [(1, [1, 2, 3, 4])], 167: [(2, [5])]}), {**fine, TRACK_167: 0}),
         # refused before
         'length_687': (old['length_687'], refused(1)),
         'empty': (old['empty'], refused(1)),
         'not_scp': (old['not_scp'], refused(2)),
         'width_8': (old['width_8'], refused(3)),
-        'revolutions_6': (old['revolutions_6'], refused(4)),
+        'revolutions_0': (old['revolutions_0'], refused(4)),
+        'read_write_255': (old['read_write_255'], refused(4)),
         'end_168': (old['end_168'], refused(5)),
         'heads_3': (old['heads_3'], refused(6)),
         'footer_unsigned': (old['footer_unsigned'], refused(7)),
@@ -120,6 +128,10 @@ def images():
         'turns_flux': (laid({0: (688, [(1, 4, 716), (2, 4, 722)])}, turns=2), {**shared, TURN_1: 18}),
         'turns_flux_a_byte': (laid({0: (688, [(1, 4, 723), (2, 4, 716)])}, turns=2), {**shared, TURN_1: 18}),
         'turns_flux_last': (laid({0: (688, turns_5[:4] + [(9, 1, 767)])}, turns=5), {NONE: 0, TURN_1: 0, TURN_4: 18}),
+        # the flux of the first of 255 turns, and the flux or the numbers of the last
+        'turns_255_flux': (of_255(turns_255[:254] + [(9, 1, 3752)]), first_and_last),
+        'turns_255_numbers': (of_255([(9, 1, 3740)] + turns_255[1:]), first_and_last),
+        'turns_255_distance': (of_255([(9, 1, 3748)] + turns_255[1:]), {**first_and_last, TURN_254: 0}),
         # flux and the header of another track, whose own rewrite is shared only where its 8 bytes are hit
         'other_header_start': (two(711, 704), {**shared, TRACK_1: 0}),
         'other_header_end': (two(704, 719), {**shared, TRACK_1: 0}),

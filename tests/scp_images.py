@@ -75,6 +75,11 @@ def resum(b):
 A = image({0: [(8_000_000, [160, 0, 1, 240])]})
 
 
+def of_turns(count, flags=1):
+    """Track 0 with so many revolutions, each of its own duration and of one word."""
+    return image({0: [(8_000_000 + k, [k + 1]) for k in range(count)]}, revolutions=count, flags=flags)
+
+
 def any_order():
     """A string comes first, then track 2, whose flux lies over that of track 0, then track 0; two of the strings are the same (L-19)."""
     string, second, first, flux = HEAD, HEAD + 5, HEAD + 21, HEAD + 37
@@ -116,8 +121,15 @@ def images():
         'width_8': put(A, 9, b'\x08'),
         'width_16': put(A, 9, b'\x10'),
         'revolutions_0': put(A, 5, b'\0'),
-        'revolutions_6': put(A, 5, b'\6'),
+        'revolutions_6': of_turns(6),
+        'revolutions_9': of_turns(9),
+        'revolutions_200': of_turns(200),
+        'revolutions_255': of_turns(255),
+        'revolutions_255_header_past_end': resum(of_turns(255)[:HEAD + 3063]),
+        'revolutions_255_last_past_end': resum(of_turns(255)[:-1]),
+        'read_write_0': of_turns(0, flags=0x11),
         'read_write_two': put(image({0: [(1, [1]), (1, [1])]}, revolutions=2), 8, b'\x11'),
+        'read_write_255': of_turns(255, flags=0x11),
         'start_above_end': put(A, 6, b'\1'),
         'end_168': put(A, 7, b'\xA8'),
         'heads_3': put(A, 10, b'\3'),
@@ -160,7 +172,7 @@ class Image:
         if self.width not in (0, 16):
             raise Refused(3)
         self.read_write = bool(self.flags >> 4 & 1)
-        if self.turns not in range(1, 6) or self.read_write and self.turns != 1:
+        if self.turns == 0 or self.read_write and self.turns > 1:
             raise Refused(4)
         if self.start > self.end or self.end > 167:
             raise Refused(5)
@@ -261,7 +273,7 @@ def questions(b):
         durations = [d for d, _, _ in i.tracks[t] if d]
         lines.append('speeds ' + ('none' if not durations else
                      'slowest 300 %d fastest 300 %d' % (exact(max(durations), 300), exact(min(durations), 300))))
-        for k in 0, 4, 5, 4294967295:
+        for k in 0, 4, 5, 127, 254, 255, 4294967295:
             if k >= i.turns:
                 lines.append('turn %d: refused 14 at 0' % k)
                 continue

@@ -135,6 +135,12 @@ fn other_turns(name: &[u8], before: &[u8]) {
     attempt(name, before, 0, 4_294_967_295, 5, b"");
 }
 
+// The middle and the last of 255 revolutions.
+fn far_turns(name: &[u8], before: &[u8]) {
+    attempt(name, before, 0, 127, 10, b"ab");
+    attempt(name, before, 0, 254, 11, b"ab");
+}
+
 // Other tracks, two of them never present.
 fn other_tracks(name: &[u8], before: &[u8]) {
     attempt(name, before, 1, 0, 6, b"ab");
@@ -162,6 +168,7 @@ fn show_file(i: usize) {
     let before = &buffer[..n];
     first_track(name, before);
     other_turns(name, before);
+    far_turns(name, before);
     other_tracks(name, before);
 }
 

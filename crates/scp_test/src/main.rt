@@ -209,6 +209,17 @@ fn track_fields(d: TrackData) {
     number_32(d.revolutions);
 }
 
+// The first, the fifth and the sixth, the middle and the last of 255, and two that no track has.
+fn print_revolutions(image: &[u8], t: u32) {
+    print_revolution(image, t, 0);
+    print_revolution(image, t, 4);
+    print_revolution(image, t, 5);
+    print_revolution(image, t, 127);
+    print_revolution(image, t, 254);
+    print_revolution(image, t, 255);
+    print_revolution(image, t, u32::MAX);
+}
+
 fn print_track(image: &[u8], t: u32) {
     title(b"track ", t);
     match scp::track(image, t) {
@@ -217,10 +228,7 @@ fn print_track(image: &[u8], t: u32) {
             newline();
             print_speeds(image, t);
             newline();
-            print_revolution(image, t, 0);
-            print_revolution(image, t, 4);
-            print_revolution(image, t, 5);
-            print_revolution(image, t, u32::MAX);
+            print_revolutions(image, t);
         }
         TrackAnswer::Refused(r) => {
             print_refusal(r);

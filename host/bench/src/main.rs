@@ -14,24 +14,39 @@ use scp_compare::random::Random;
 use std::hint::black_box;
 use std::time::Instant;
 
+/// The most tracks and revolutions that an image may have.
+const MOST_REVOLUTIONS: Style = Style { last_track: 167, revolutions: 255, ..CAPTURE };
+
 fn main() {
     let rounds = std::env::args().nth(1).and_then(|word| word.parse().ok()).unwrap_or(31).max(3);
-    println!("{:<58} {:>7} {:>16}", "library beside plain Rust", "ratio", "spread");
+    say_columns("library beside plain Rust");
     validate(rounds);
     summing(rounds);
     question(rounds);
     reading(rounds);
     writing(rounds);
     rewriting(rounds);
+    say_columns("library's time for each revolution, beside 168 tracks of 255");
+    growth(rounds);
 }
 
-/// Times both, turn by turn, and prints the ratio of the first by the second.
+/// The head of a table of ratios.
+fn say_columns(what: &str) {
+    println!("{what:<66} {:>7} {:>16}", "ratio", "spread");
+}
+
+/// Times so many calls of both, and prints the ratio of the library by plain Rust.
 fn ratio(name: &str, rounds: usize, times: usize, mut library: impl FnMut() -> u64, mut plain: impl FnMut() -> u64) {
     assert_eq!(library(), plain(), "{name}: the two do not agree");
-    let mut ratios: Vec<f64> = (0..rounds).map(|_| seconds(times, &mut library) / seconds(times, &mut plain)).collect();
+    beside(name, rounds, (times, library), (times, plain));
+}
+
+/// Times so many calls of each, turn by turn, and prints the ratio of the first by the second.
+fn beside(name: &str, rounds: usize, mut first: (usize, impl FnMut() -> u64), mut second: (usize, impl FnMut() -> u64)) {
+    let mut ratios: Vec<f64> = (0..rounds).map(|_| seconds(first.0, &mut first.1) / seconds(second.0, &mut second.1)).collect();
     ratios.sort_by(f64::total_cmp);
     let at = |hundredth: usize| ratios[hundredth * (rounds - 1) / 100];
-    println!("{name:<58} {:>7.2} {:>7.2} to {:>5.2}", at(50), at(10), at(90));
+    println!("{name:<66} {:>7.2} {:>7.2} to {:>5.2}", at(50), at(10), at(90));
 }
 
 /// Seconds that so many calls take.
@@ -76,18 +91,24 @@ fn summing(rounds: usize) {
     ratio("sum 256 KiB of flux, as a row of a replay", rounds, 200, library, plain);
 }
 
-/// Opening an image of 80 tracks and asking one question.
+/// Opening an image and asking one question: of 80 tracks, and of the most tracks and revolutions.
 fn question(rounds: usize) {
-    let image = image(&Style { heads: 1, ..CAPTURE }, 100);
-    let library = || {
-        let mut out = [0; 3];
-        raw::revolution(black_box(&image), 40, 2, &mut out) + out.iter().sum::<u64>()
-    };
-    let plain = || match plain::revolution(black_box(&image), 40, 2) {
-        Ok(found) => u64::from(found.duration) + u64::from(found.words) + found.place,
-        Err((number, position)) => u64::from(number) + 256 * position,
-    };
-    ratio("open 80 tracks of 5 revolutions and ask for a revolution", rounds, 2000, library, plain);
+    for (tracks, times, style) in [(80, 2000, Style { heads: 1, ..CAPTURE }), (168, 50, MOST_REVOLUTIONS)] {
+        let image = image(&style, 100);
+        let library = || ask(black_box(&image));
+        let plain = || match plain::revolution(black_box(&image), 16, 2) {
+            Ok(found) => u64::from(found.duration) + u64::from(found.words) + found.place,
+            Err((number, position)) => u64::from(number) + 256 * position,
+        };
+        let revolutions = style.revolutions;
+        ratio(&format!("open {tracks} tracks of {revolutions} revolutions and ask for one"), rounds, times, library, plain);
+    }
+}
+
+/// The numbers of a revolution, added.
+fn ask(image: &[u8]) -> u64 {
+    let mut out = [0; 3];
+    raw::revolution(image, 16, 2, &mut out) + out.iter().sum::<u64>()
 }
 
 /// Flux of 50,000 words, by the cursor and at one go.
@@ -140,15 +161,34 @@ fn writing(rounds: usize) {
 
 /// One rewrite on an image with all 168 tracks.
 fn rewriting(rounds: usize) {
-    for (name, style) in
-        [("read-only, 5 revolutions", Style { last_track: 167, ..CAPTURE }), ("read/write", Style { last_track: 167, ..READ_WRITE })]
-    {
-        let mut mine = image(&style, 1000);
+    for (name, words, times, style) in [
+        ("read-only, 5 revolutions", 1000, 1000, Style { last_track: 167, ..CAPTURE }),
+        ("read-only, 255 revolutions", 100, 50, MOST_REVOLUTIONS),
+        ("read/write", 1000, 1000, Style { last_track: 167, ..READ_WRITE }),
+    ] {
+        let mut mine = image(&style, words);
         let mut other = mine.clone();
-        let new = flux_bytes(&flux_words(&mut Random::new(3), 1000));
+        let new = flux_bytes(&flux_words(&mut Random::new(3), words));
         let library = || raw::rewrite(black_box(&mut mine), 80, 0, 8_000_001, &new);
         let plain = || code(plain::rewrite(black_box(&mut other), 80, 0, 8_000_001, &new));
-        ratio(&format!("rewrite 1000 words among 168 tracks ({name})"), rounds, 1000, library, plain);
+        ratio(&format!("rewrite {words} words among 168 tracks ({name})"), rounds, times, library, plain);
         assert!(mine == other, "the two images do not agree");
+    }
+}
+
+/// Opening and rewriting on fewer tracks or revolutions, as many calls as make for the same number of revolutions in all.
+fn growth(rounds: usize) {
+    let (words, times) = (20, 20);
+    let new = flux_bytes(&flux_words(&mut Random::new(3), words));
+    let rewrite = |image: &mut Vec<u8>| raw::rewrite(black_box(image), 16, 0, 8_000_001, &new);
+    let mut most = image(&MOST_REVOLUTIONS, words);
+    for (tracks, revolutions) in [(168, 5), (168, 51), (21, 255), (84, 255)] {
+        let mut fewer = image(&Style { last_track: tracks - 1, revolutions, ..MOST_REVOLUTIONS }, words);
+        let more_times = times * 168 * 255 / (usize::from(tracks) * usize::from(revolutions));
+        let name = format!("{tracks} tracks of {revolutions} revolutions");
+        let (first, second) = ((more_times, || ask(black_box(&fewer))), (times, || ask(black_box(&most))));
+        beside(&format!("open {name} and ask for one"), rounds, first, second);
+        let (first, second) = ((more_times, || rewrite(&mut fewer)), (times, || rewrite(&mut most)));
+        beside(&format!("rewrite {words} words among {name}"), rounds, first, second);
     }
 }

@@ -45,7 +45,7 @@ fn check_header(image: &[u8]) -> Result<(), Refused> {
     if !matches!(image[9], 0 | 16) {
         return Err((3, 0));
     }
-    if !(1..=5).contains(&image[5]) || image[8] & 0x10 != 0 && image[5] != 1 {
+    if image[5] == 0 || image[8] & 0x10 != 0 && image[5] > 1 {
         return Err((4, 0));
     }
     if image[6] > image[7] || image[7] > 167 {
