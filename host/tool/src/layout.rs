@@ -14,9 +14,6 @@ const FOOTER_SIZE: usize = 48;
 /// How many bytes an image with a footer has at least.
 pub const LEAST_WITH_FOOTER: usize = TABLE_END + FOOTER_SIZE;
 
-/// The most revolutions of a track.
-pub const MOST_REVOLUTIONS: u8 = 5;
-
 /// The four bytes that close a footer.
 pub const FOOTER_SIGN: [u8; 4] = *b"FPCS";
 
@@ -103,12 +100,8 @@ impl<'a> Layout<'a> {
 
     /// The revolutions of each track; none where their number is refused, since it cannot be told then where the records end.
     pub fn revolutions(self) -> u32 {
-        let stored = self.header().map_or(0, |header| header.revolutions);
-        if stored <= MOST_REVOLUTIONS {
-            stored.into()
-        } else {
-            0
-        }
+        let header = self.header().filter(|header| !revolutions_are_refused(header));
+        header.map_or(0, |header| header.revolutions.into())
     }
 
     /// How many bytes each track data header has.
@@ -143,4 +136,9 @@ impl<'a> Layout<'a> {
     pub fn is_cut(self) -> bool {
         self.0.len() > LONGEST_IMAGE
     }
+}
+
+/// Whether the number of revolutions is refused: 0, or more than 1 on a read/write image.
+pub fn revolutions_are_refused(header: &Header) -> bool {
+    header.revolutions == 0 || header.is_read_write() && header.revolutions > 1
 }

@@ -188,6 +188,13 @@ pub fn with_footer(mut image: Vec<u8>, strings: [&[u8]; 6], created: i64, modifi
     image
 }
 
+/// An image with a change: the bytes from an offset on. It stores its sum.
+pub fn changed(mut image: Vec<u8>, offset: usize, bytes: &[u8]) -> Vec<u8> {
+    image[offset..offset + bytes.len()].copy_from_slice(bytes);
+    store_sum(&mut image);
+    image
+}
+
 /// Stores the true sum, or 0 in a read/write image.
 pub fn store_sum(image: &mut [u8]) {
     let sum: u32 = image[16..].iter().map(|&byte| u32::from(byte)).sum();

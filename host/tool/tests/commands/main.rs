@@ -8,6 +8,7 @@ mod plot;
 mod read;
 mod reasons;
 mod replay;
+mod revolutions;
 mod show;
 #[cfg(target_os = "linux")]
 mod signals;

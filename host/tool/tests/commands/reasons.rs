@@ -1,13 +1,6 @@
 //! What refusals say: every case of every number, and that it is the one that the library refuses.
 
-use crate::bench::{image, store_sum, with_footer, Bench};
-
-/// An image with a change: the bytes from an offset on.
-fn changed(mut image: Vec<u8>, offset: usize, bytes: &[u8]) -> Vec<u8> {
-    image[offset..offset + bytes.len()].copy_from_slice(bytes);
-    store_sum(&mut image);
-    image
-}
+use crate::bench::{changed, image, with_footer, Bench};
 
 /// Image A with a change.
 fn a(offset: usize, bytes: &[u8]) -> Vec<u8> {
@@ -42,8 +35,7 @@ fn cases() -> Vec<(Vec<u8>, &'static str, &'static str)> {
         (vec![0; 687], "1 at 0", "1 Size: 687 bytes, fewer than 688"),
         (a(0, b"SPC"), "2 at 0", "2 Sign: the first three bytes are 53 50 43, not SCP"),
         (a(9, &[8]), "3 at 0", "3 Width: byte 0x09 is 8, not 0 or 16"),
-        (a(5, &[0]), "4 at 0", "4 Revolutions: byte 0x05 is 0, not 1 to 5"),
-        (a(5, &[6]), "4 at 0", "4 Revolutions: byte 0x05 is 6, not 1 to 5"),
+        (a(5, &[0]), "4 at 0", "4 Revolutions: byte 0x05 is 0, where 1 is the least"),
         (changed(three_tracks(), 8, &[0x10]), "4 at 0", "4 Revolutions: byte 0x05 is 2, but a read/write image (FLAGS bit 4) has 1"),
         (a(6, &[9, 3]), "5 at 0", "5 Span: the start track 9 is above the end track 3"),
         (a(7, &[168]), "5 at 0", "5 Span: the end track 168 is above 167"),
@@ -63,6 +55,8 @@ fn cases() -> Vec<(Vec<u8>, &'static str, &'static str)> {
         (one_side(2), "9 at 2", "9 Slot: track 2 has an entry, but only side 1 is held (heads 2)"),
         (a(16, &[0xAF]), "10 at 0", "10 Track: track 0: its header at 687 is below 688"),
         (a(16, &[0xB9]), "10 at 0", "10 Track: track 0: its header of 16 bytes at 697 ends at 713, past 712"),
+        (a(5, &[6]), "10 at 0", "10 Track: track 0: its header of 76 bytes at 688 ends at 764, past 712"),
+        (a(5, &[255]), "10 at 0", "10 Track: track 0: its header of 3,064 bytes at 688 ends at 3,752, past 712"),
         (a(689, b"X"), "10 at 0", "10 Track: track 0: the three bytes at 688 are 54 58 4B, not TRK"),
         (changed(three_tracks(), 723, &[9]), "10 at 2", "10 Track: track 2: its header at 720 is that of track 9"),
         (a(696, &[5]), "11 at 0", "11 Flux: track 0, revolution 0: 2 x 5 bytes at 704 end at 714, past 712"),
@@ -107,7 +101,7 @@ fn a_file_longer_than_any_image_is_told() {
     let due = [
         "b.scp: refused 1 Size: more than 268,435,456 bytes",
         "b.scp: also 2 Sign: the first three bytes are 00 00 00, not SCP",
-        "b.scp: also 4 Revolutions: byte 0x05 is 0, not 1 to 5",
+        "b.scp: also 4 Revolutions: byte 0x05 is 0, where 1 is the least",
     ];
     assert_eq!((run.status, run.out), (1, due.join("\n") + "\n"));
     assert!(bench.run("show b.scp").out.contains("at least 268,435,457 bytes"));
@@ -197,9 +191,10 @@ fn a_time_that_no_words_express_is_told_with_its_line() {
 #[test]
 fn a_wrong_number_of_revolutions_makes_no_other_faults() {
     let bench = Bench::new();
-    for revolutions in [0, 6, 200, 255] {
-        bench.put("b.scp", &changed(three_tracks(), 5, &[revolutions]));
-        let due = format!("b.scp: refused 4 Revolutions: byte 0x05 is {revolutions}, not 1 to 5\n");
+    let (least, most) = ("where 1 is the least", "but a read/write image (FLAGS bit 4) has 1");
+    for (flags, revolutions, due) in [(0x00, 0, least), (0x10, 0, least), (0x10, 2, most), (0x10, 200, most), (0x10, 255, most)] {
+        bench.put("b.scp", &changed(changed(three_tracks(), 8, &[flags]), 5, &[revolutions]));
+        let due = format!("b.scp: refused 4 Revolutions: byte 0x05 is {revolutions}, {due}\n");
         assert_eq!(bench.refuses("validate --all b.scp"), due);
         let shown = bench.refuses("show b.scp");
         assert!(shown.contains("0x000002B0  -\n") && shown.ends_with("open ticks\n"), "{shown}");
