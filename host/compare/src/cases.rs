@@ -2,7 +2,7 @@
 
 use crate::generate;
 use crate::image::{duration_at, entry_at, flux_bytes, number_at};
-use crate::question::Question;
+use crate::question::{compare, Question};
 use crate::random::Random;
 use crate::sequence::{ANSWER, CALL};
 
@@ -49,10 +49,12 @@ fn image_case(random: &mut Random) -> Case {
 /// Every question about every track and revolution of an image, with as many places as needed; no rewrite.
 pub fn every_question(image: &[u8]) -> Vec<Question> {
     let mut questions = vec![Question::Validate, Question::Header { places: 9 }, Question::Footer { places: 13 }];
+    let revolutions = revolutions(image);
     for track in 0..169 {
         questions.push(Question::Track { track, places: 4 });
         questions.push(Question::TrackSpeed { track, places: 3 });
-        for revolution in 0..6 {
+        let present = track < 168 && number_at(image, entry_at(track as usize)) != 0;
+        for revolution in if present { 0..=revolutions } else { revolutions..=revolutions } {
             let size = 2 * count(image, track, revolution).min(1 << 20) as usize;
             questions.push(Question::Revolution { track, revolution, places: 3 });
             questions.push(Question::Flux { track, revolution, places: size });
@@ -60,6 +62,23 @@ pub fn every_question(image: &[u8]) -> Vec<Question> {
         }
     }
     questions
+}
+
+/// Puts every question on the image to both, and one rewrite of each present revolution; panics where they differ.
+pub fn agree(name: &str, image: &[u8]) {
+    let mut questions = every_question(image);
+    for track in 0..168 {
+        for revolution in 0..revolutions(image) {
+            let Ok(found) = scp::revolution(image, track, revolution) else { break };
+            let words = vec![1; 2 * found.words.min(3) as usize];
+            questions.push(Question::Rewrite { track, revolution, duration: 1, words });
+        }
+    }
+    for question in questions {
+        if let Err(difference) = compare(image, &question) {
+            panic!("{name}: {question:?}: {difference:?}");
+        }
+    }
 }
 
 /// So many places as needed, or some more or fewer.
@@ -85,17 +104,23 @@ fn some_track(image: &[u8], random: &mut Random) -> u32 {
 
 /// A revolution: mostly one that the header counts, else any.
 fn some_revolution(image: &[u8], random: &mut Random) -> u32 {
-    let counted = image.get(5).copied().unwrap_or(1).clamp(1, 5);
-    match random.below(8) {
-        0 => u32::from(counted),
+    let counted = revolutions(image).max(1);
+    match random.below(9) {
+        0 => counted,
         1 => random.edgy32(),
-        _ => random.below(counted.into()) as u32,
+        2 => counted - 1,
+        _ => random.below(counted as usize) as u32,
     }
+}
+
+/// How many revolutions the header counts.
+pub fn revolutions(image: &[u8]) -> u32 {
+    image.get(5).copied().unwrap_or(0).into()
 }
 
 /// How many words a revolution seems to have.
 fn count(image: &[u8], track: u32, revolution: u32) -> u32 {
-    if track > 167 || revolution > 4 {
+    if track > 167 || revolution >= revolutions(image) {
         return 0;
     }
     let header = number_at(image, entry_at(track as usize)) as usize;

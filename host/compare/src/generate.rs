@@ -6,6 +6,9 @@ use crate::image::{
 };
 use crate::random::Random;
 
+/// The most revolutions of all tracks together.
+const MOST_RECORDS: usize = 1020;
+
 /// An image by chance: valid, or with a fault or several.
 pub fn image(random: &mut Random) -> Vec<u8> {
     let parts = parts(random);
@@ -27,19 +30,29 @@ pub fn image(random: &mut Random) -> Vec<u8> {
 /// Parts of a valid image.
 pub fn parts(random: &mut Random) -> Parts {
     let read_write = random.once_in(5);
-    let revolutions = if read_write { 1 } else { random.between(1, 5) as u8 };
+    let revolutions = if read_write { 1 } else { revolutions(random) };
     let heads = random.pick(&[0, 0, 0, 1, 2]);
     let footer = random.once_in(2).then(|| footer(random));
     let mut flags = random.byte() & 0xCF;
     flags |= 0x10 * u8::from(read_write) + 0x20 * u8::from(footer.is_some());
     let (start, end) = span(random);
-    let numbers = numbers(random, start, end, heads);
+    let mut numbers = numbers(random, start, end, heads);
+    numbers.truncate(MOST_RECORDS / usize::from(revolutions));
     let tracks = numbers.into_iter().map(|number| track(random, number, revolutions)).collect();
     let trailer = if random.once_in(3) { b"01/02/2026 12:34:56 PM".to_vec() } else { Vec::new() };
     let layout = random.pick(&[Layout::InOrder, Layout::Gaps, Layout::Shuffled]);
     let width = random.pick(&[0, 16]);
     let (version, disk) = (random.byte(), random.byte());
     Parts { version, disk, revolutions, start, end, flags, width, heads, tracks, footer, trailer, layout }
+}
+
+/// How many revolutions a track has: mostly a few, now and then many.
+fn revolutions(random: &mut Random) -> u8 {
+    match random.below(16) {
+        0 => random.pick(&[6, 9, 127, 128, 200, 254, 255, 255]),
+        1 => random.between(1, 255) as u8,
+        _ => random.pick(&[1, 1, 2, 3, 4, 5, 6]),
+    }
 }
 
 /// Start and end track: few or all.
@@ -118,13 +131,14 @@ fn overlap(parts: &Parts, placed: &mut Placed, random: &mut Random) {
     }
 }
 
-/// A track and a revolution that are there.
+/// A track and a revolution that are there, now and then the last.
 fn some_revolution(parts: &Parts, random: &mut Random) -> Option<(usize, usize)> {
     if parts.tracks.is_empty() {
         return None;
     }
     let track = random.below(parts.tracks.len());
-    Some((track, random.below(parts.tracks[track].revolutions.len())))
+    let revolutions = parts.tracks[track].revolutions.len();
+    Some((track, if random.once_in(4) { revolutions - 1 } else { random.below(revolutions) }))
 }
 
 /// The end of the image, or the start of its footer.
@@ -187,7 +201,7 @@ fn spoil(parts: &Parts, placed: &mut Placed, random: &mut Random) {
         0 => resize(&mut placed.image, random),
         1 => spoil_byte(&mut placed.image, 0, 3, random),
         2 => spoil_field(&mut placed.image, 9, &[1, 15, 16, 17, 32, 255], random),
-        3 => spoil_field(&mut placed.image, 5, &[0, 1, 2, 5, 6, 255], random),
+        3 => spoil_field(&mut placed.image, 5, &[0, 1, 2, 5, 6, 254, 255], random),
         4 => spoil_span(&mut placed.image, random),
         5 => spoil_field(&mut placed.image, 10, &[0, 1, 2, 3, 255], random),
         6 => spoil_footer(&mut placed.image, random),

@@ -42,6 +42,11 @@ pub fn compare(bytes: &[u8], question: &Question) -> Result<Agreed, Difference> 
     Ok(Agreed { number, rows: Vec::new() })
 }
 
+/// The number of the refusal that both give, 0 for none.
+pub fn number(bytes: &[u8], question: &Question) -> Result<u32, Difference> {
+    compare(bytes, question).map(|agreed| agreed.number)
+}
+
 /// The questions that only read the bytes and fill one buffer.
 fn ask(bytes: &[u8], question: &Question) -> Result<u32, Difference> {
     let lent = Guarded::new(bytes, BYTE);

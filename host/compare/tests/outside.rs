@@ -1,35 +1,10 @@
 //! Outside images: image A, the worked examples of the public text, layouts that real tools write, the stored images, and the largest.
 
 use scp::{Reason, Step};
-use scp_compare::cases::every_question;
-use scp_compare::difference::Difference;
+use scp_compare::cases::agree;
 use scp_compare::image::number_at;
 use scp_compare::outside::{image, CAPTURE, OLD_CAPTURE, READ_WRITE, SINGLE_SIDED};
-use scp_compare::question::{compare, Question};
-
-/// The number of the refusal that both give, 0 for none.
-fn number(bytes: &[u8], question: &Question) -> Result<u32, Difference> {
-    compare(bytes, question).map(|agreed| agreed.number)
-}
-
-/// Every question on the image, put to both; and one rewrite of each present revolution.
-fn agree(name: &str, image: &[u8]) {
-    for question in every_question(image) {
-        if let Err(difference) = compare(image, &question) {
-            panic!("{name}: {question:?}: {difference:?}");
-        }
-    }
-    for track in 0..168 {
-        for revolution in 0..5 {
-            let Ok(found) = scp::revolution(image, track, revolution) else { continue };
-            let words = vec![1; 2 * found.words.min(3) as usize];
-            let question = Question::Rewrite { track, revolution, duration: 1, words };
-            if let Err(difference) = compare(image, &question) {
-                panic!("{name}: {question:?}: {difference:?}");
-            }
-        }
-    }
-}
+use scp_compare::question::{number, Question};
 
 #[test]
 fn image_a_is_as_the_rules_say() {

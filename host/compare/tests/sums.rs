@@ -4,7 +4,7 @@
 use scp::{Answer, Call, Reason};
 use scp_compare::image::{number_at, set};
 use scp_compare::outside::image_a_with_flux;
-use scp_compare::question::{compare, Question};
+use scp_compare::question::{compare, number, Question};
 use scp_compare::random::Random;
 use scp_compare::sequence::{ANSWER, CALL};
 
@@ -54,7 +54,7 @@ fn a_rewrite_moves_the_checksum_past_32_bits() {
     let mut image = image_a_with_flux(&vec![0; WRAPPING]);
     let full = vec![0xFF; WRAPPING];
     let question = Question::Rewrite { track: 0, revolution: 0, duration: 8_000_000, words: full.clone() };
-    assert_eq!(compare(&image, &question).map(|agreed| agreed.number), Ok(0));
+    assert_eq!(number(&image, &question), Ok(0));
     scp::rewrite(&mut image, 0, 0, 8_000_000, &full).unwrap();
     assert_eq!((number_at(&image, CHECKSUM), scp::validate(&image)), (575 + 385 + 254, Ok(())));
     scp::rewrite(&mut image, 0, 0, 8_000_000, &vec![0; WRAPPING]).unwrap();

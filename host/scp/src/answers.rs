@@ -10,7 +10,7 @@ pub struct Header {
     pub version: u8,
     /// The disk type, any.
     pub disk: u8,
-    /// Revolutions per track, 1 to 5.
+    /// Revolutions per track, 1 to 255.
     pub revolutions: u8,
     /// The first track.
     pub start: u8,

@@ -84,7 +84,7 @@ impl Reason {
             Reason::Size => "the image is shorter than 688 bytes or longer than 268,435,456",
             Reason::Sign => "the image does not start with \"SCP\"",
             Reason::Width => "the word width is neither 0 nor 16",
-            Reason::Revolutions => "the number of revolutions is not 1 to 5, or not 1 on a read/write image",
+            Reason::Revolutions => "the number of revolutions is 0, or more than 1 on a read/write image",
             Reason::Span => "the start track is above the end track, or the end track above 167",
             Reason::Heads => "the heads byte is above 2",
             Reason::Footer => "the footer is flagged, but too short, without \"FPCS\" or older than 0x16",
