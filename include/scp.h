@@ -28,7 +28,7 @@ enum scp_refusal {
     SCP_SIZE = 1,         /* length below 688 or above 268,435,456 */
     SCP_SIGN = 2,         /* not "SCP" */
     SCP_WIDTH = 3,        /* word width not 0 or 16 */
-    SCP_REVOLUTIONS = 4,  /* no revolutions, or more than 1 and read/write */
+    SCP_REVOLUTIONS = 4,  /* 0 revolutions, or more than 1 on a read/write image */
     SCP_SPAN = 5,         /* start track above end track, or end track above 167 */
     SCP_HEADS = 6,        /* heads byte above 2 */
     SCP_FOOTER = 7,       /* footer flagged, and too short, without "FPCS" or older than 0x16 */
