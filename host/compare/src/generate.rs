@@ -156,7 +156,7 @@ fn move_flux(parts: &Parts, placed: &mut Placed, random: &mut Random) {
     let string = random.pick(&placed.strings) as usize;
     let place = match random.below(7) {
         0 => placed.flux[other][other_revolution],
-        1 => placed.headers[other] + random.below(20),
+        1 => placed.headers[other] + random.below(8 + 12 * usize::from(parts.revolutions)),
         2 => end - size.min(end),
         3 => (placed.flux[other][other_revolution] + 2).saturating_sub(2 * random.below(3)),
         4 => duration_at(header, revolution) + random.below(13),

@@ -23,8 +23,8 @@ fn accepted() -> Vec<Vec<u8>> {
 
 /// The first, the middle and the last revolution of an image.
 fn first_middle_last(image: &[u8]) -> [u32; 3] {
-    let last = revolutions(image) - 1;
-    [0, last / 2, last]
+    let count = revolutions(image);
+    [0, count / 2, count.saturating_sub(1)]
 }
 
 /// What a revolution reads as: its duration and its words.
@@ -40,7 +40,14 @@ fn zero_revolutions_and_several_on_a_read_write_image_are_refused_with_4() {
             let name = format!("{revolutions} revolutions, read/write {read_write}");
             let image = image(&three_tracks(revolutions, read_write), 4);
             let refused = revolutions == 0 || read_write && revolutions > 1;
-            assert_eq!(number(&image, &Question::Validate), Ok(if refused { 4 } else { 0 }), "{name}");
+            let mut questions = vec![Question::Validate];
+            for (track, revolution) in (0..3).zip(first_middle_last(&image)) {
+                questions.push(Question::Revolution { track, revolution, places: 3 });
+                questions.push(Question::Rewrite { track, revolution, duration: 1, words: vec![0, 1] });
+            }
+            for question in questions {
+                assert_eq!(number(&image, &question), Ok(if refused { 4 } else { 0 }), "{name}: {question:?}");
+            }
             agree(&name, &image);
         }
     }
