@@ -30,6 +30,7 @@ ATTEMPTS = [
     (0, 4, 3, b''),
     (0, 5, 4, b'abc'),
     (0, 2**32 - 1, 5, b''),
+    (0, 5, 12, b'ab'),
     (0, 127, 10, b'ab'),
     (0, 254, 11, b'ab'),
     (1, 0, 6, b'ab'),
@@ -37,7 +38,7 @@ ATTEMPTS = [
     (168, 5, 8, b'abc'),
     (2**32 - 1, 0, 9, b''),
 ]
-FOUR, TWO, NONE, ODD, FIVE, TURN_1, TURN_4, TURN_5, TURN_MAX, TURN_127, TURN_254, TRACK_1, TRACK_167, TRACK_168, TRACK_MAX = range(15)
+FOUR, TWO, NONE, ODD, FIVE, TURN_1, TURN_4, TURN_5, TURN_MAX, TURN_6TH, TURN_127, TURN_254, TRACK_1, TRACK_167, TRACK_168, TRACK_MAX = range(16)
 
 
 # ---- making images
@@ -100,7 +101,7 @@ def images():
         'type_bit_is_not_read_write': (one(4, 704, flags=9), fine),
         'no_tracks': (old['no_tracks'], {FOUR: 13, **other}),
         'five_words': (image({0: [(1, [1, 2, 3, 4, 5])]}), {**fine, FIVE: 0}),
-        'revolutions_6': (old['revolutions_6'], {FOUR: 17, NONE: 0, TURN_1: 0, TURN_4: 0, TURN_5: 17, TURN_127: 14}),
+        'revolutions_6': (old['revolutions_6'], {FOUR: 17, NONE: 0, TURN_1: 0, TURN_4: 0, TURN_5: 17, TURN_6TH: 0, TURN_127: 14}),
         'revolutions_255': (old['revolutions_255'], {FOUR: 17, NONE: 0, TURN_1: 0, TURN_127: 0, TURN_254: 0, TURN_MAX: 14}),
         'track_167': (image({0: [(1, [1, 2, 3, 4])], 167: [(2, [5])]}), {**fine, TRACK_167: 0}),
         # refused before

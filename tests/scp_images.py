@@ -273,7 +273,7 @@ def questions(b):
         durations = [d for d, _, _ in i.tracks[t] if d]
         lines.append('speeds ' + ('none' if not durations else
                      'slowest 300 %d fastest 300 %d' % (exact(max(durations), 300), exact(min(durations), 300))))
-        for k in 0, 4, 5, 127, 254, 255, 4294967295:
+        for k in 0, 4, 5, 8, 127, 199, 254, 255, 4294967295:
             if k >= i.turns:
                 lines.append('turn %d: refused 14 at 0' % k)
                 continue

@@ -1,7 +1,7 @@
 -- A loop that searches upwards from i below n. Its invariant is that what is to be found from i on is r; here stand what holds where it
 -- stops, where it goes on, and where it ends.
 use Prim.Native.Nat.{ℕ, suc, _+_, _-_, _<_, _≤_}
-use mathlib.Core.Path.{_≡_, sym, ap, _∙_}
+use mathlib.Core.Path.{_≡_, refl, sym, ap, _∙_}
 use mathlib.Core.Bool.{Bool, true, false, _||_}
 use native.Mathlib.Omega.{arith}
 use borrow.Author.Tests.{eq-eqb}
@@ -9,6 +9,7 @@ use Rattle.refusals.specs.declared.Refusal.{Refusal}
 use Rattle.refusals.specs.Refusals.{none, refuseIf, firstOf}
 use Rattle.refusals.specs.Search.{anyFrom, firstFrom}
 use Rattle.refusals.proofs.Chain.{first-here}
+use Rattle.refusals.proofs.Finding.{neither}
 
 left-suc : (i n : ℕ) → i < n → n - i ≡ suc (n - (i + 1))
 left-suc i n h = omega arith
@@ -30,6 +31,28 @@ module _ (p : ℕ → Bool) {i n : ℕ} {r : Bool} (inv : anyFrom p i (n - i) �
   pub any-end : n ≤ i → false ≡ r
   unfolding anyFrom
   any-end h = sym (sym inv ∙ ap (anyFrom p i) (left-none i n h))
+
+-- the same for a loop that looks at two indices in a turn, and at the last by itself
+module _ (p : ℕ → Bool) (i : ℕ) {n : ℕ} {r : Bool} (inv : anyFrom p i (n - i) ≡ r) where
+  pub two-here : i + 1 < n → p i || p (i + 1) ≡ true → true ≡ r
+  two-here h t = by (p i) refl
+    where
+      by : (v : Bool) → p i ≡ v → true ≡ r
+      by true e = any-here p inv (omega arith) e
+      by false e = any-here p (any-next p inv (omega arith) e) h (sym (ap (λ (v : Bool). v || p (i + 1)) e) ∙ t)
+
+  pub two-next : i + 1 < n → p i || p (i + 1) ≡ false → anyFrom p (i + 2) (n - (i + 2)) ≡ r
+  two-next h t =
+      let both = neither (p i) (p (i + 1)) t in
+      let two : i + 2 ≡ i + 1 + 1 = omega arith in
+      rw two (any-next p (any-next p inv (omega arith) (both .0)) h (both .1))
+
+  pub last-here : i < n → n ≤ i + 1 → p i ≡ r
+  last-here h l = by (p i) refl
+    where
+      by : (v : Bool) → p i ≡ v → p i ≡ r
+      by true e = e ∙ any-here p inv h e
+      by false e = e ∙ any-end p (any-next p inv h e) l
 
 -- v is the finding at i
 module _ (f : ℕ → Refusal) {i n : ℕ} {r : Refusal} (inv : firstFrom f i (n - i) ≡ r) where

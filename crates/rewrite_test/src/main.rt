@@ -135,8 +135,9 @@ fn other_turns(name: &[u8], before: &[u8]) {
     attempt(name, before, 0, 4_294_967_295, 5, b"");
 }
 
-// The middle and the last of 255 revolutions.
+// The last of 6 revolutions, the middle and the last of 255.
 fn far_turns(name: &[u8], before: &[u8]) {
+    attempt(name, before, 0, 5, 12, b"ab");
     attempt(name, before, 0, 127, 10, b"ab");
     attempt(name, before, 0, 254, 11, b"ab");
 }

@@ -70,6 +70,13 @@ module _ (p : Extent → Bool) where
     unfolding fluxClaim anyOf
     flux-other j q = simp (q, or-false)
 
+    pub flux-missed : (j : ℕ) → p (fluxExtent b e j) ≡ false → anyOf p (fluxClaim b t k u e j) ≡ false
+    flux-missed j q = by (eqb u t && eqb j k) refl
+      where
+        by : (v : Bool) → (eqb u t && eqb j k) ≡ v → anyOf p (fluxClaim b t k u e j) ≡ false
+        by true own = flux-own j own
+        by false other = flux-other j other ∙ q
+
     pub track-none : e ≡ 0 → anyOf p (trackClaim b t k u e) ≡ false
     unfolding trackClaim anyOf
     track-none q = simp (eq-eqb e 0 q)

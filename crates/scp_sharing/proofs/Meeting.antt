@@ -10,6 +10,7 @@ use borrow.Author.Tests.{ltb-true, ltb-false, lt-ltb, le-ltb}
 use Rattle.refusals.proofs.Finding.{either}
 use Rattle.scp_sharing.specs.Extents.{meets, In}
 use Rattle.scp_sharing.specs.Claims.{hit}
+use Rattle.scp_sharing.specs.Walk.{Spans}
 use Rattle.scp_sharing.specs.declared.Extent.{Extent}
 use Rattle.scp_sharing.specs.declared.Stand.{Stand}
 
@@ -93,3 +94,19 @@ module _ (s : Stand) (x : Extent) where
         | inl l ↦ (let r = meets-byte (s .numbers) x l in (r .0, inl (r .1), r .2))
         | inr l ↦ (let r = meets-byte (s .flux) x l in (r .0, inr (r .1), r .2))
       ]
+
+  pub hit-none : ((i : ℕ) → On s i → In i x → ⊥) → hit s x ≡ false
+  hit-none none = by (hit s x) refl
+    where
+      by : (v : Bool) → hit s x ≡ v → hit s x ≡ false
+      by true e = let r = hit-byte e in absurd (none (r .0) (r .1) (r .2))
+      by false e = e
+
+  -- what lies behind or before all that the rewrite stands on is not hit
+  pub hit-behind : {from to : ℕ} → Spans s from to → x .start < 18_446_744_073_709_551_616 → to < x .start → hit s x ≡ false
+  hit-behind spans small h =
+      let ends = spans .2 (omega arith) in
+      hit-none (λ i on at. elim on [ inl p ↦ omega arith | inr p ↦ omega arith ])
+
+  pub hit-before : {from to : ℕ} → Spans s from to → x .start + x .size ≤ from → hit s x ≡ false
+  hit-before spans h = hit-none (λ i on at. elim on [ inl p ↦ omega arith | inr p ↦ omega arith ])

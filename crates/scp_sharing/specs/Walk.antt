@@ -6,6 +6,13 @@ use mathlib.Core.List.{List}
 use lib.ListN.{length}
 use Rattle.scp_fields.specs.Header.{trackSlots, revolutions, trackEntry}
 use Rattle.scp_tracks.specs.Tracks.{headerSize}
+use Rattle.scp_sharing.specs.declared.Stand.{Stand}
+
+-- All that a rewrite stands on lies from the one offset up to the other, unless that is the largest number of 64 bits.
+abbrev pub Spans : Stand → ℕ → ℕ → Type 0
+Spans s from to =
+    (from ≤ s .numbers .start) × (from ≤ s .flux .start)
+    × (to < 18_446_744_073_709_551_615 → (s .numbers .start + s .numbers .size ≤ to) × (s .flux .start + s .flux .size ≤ to))
 
 -- The track header at e lies inside the image.
 abbrev pub Inside : List ℕ → ℕ → Type 0

@@ -9,7 +9,7 @@ ghost use Rattle.scp_fields.specs.Header.{revolutions, trackEntry};
 ghost use Rattle.scp_tracks.specs.Tracks.{revolutionAt, countAt};
 ghost use Rattle.scp_sharing.specs.Extents.{between, meets, anyOf};
 ghost use Rattle.scp_sharing.specs.Claims.{fluxExtent, standAt, hit, headerClaims, fluxClaim, fluxClaims, trackClaim, trackClaims, stringClaim, stringClaims, footerClaims, claims, shared};
-ghost use Rattle.scp_sharing.specs.Walk.{Inside, Walkable};
+ghost use Rattle.scp_sharing.specs.Walk.{Spans, Inside, Walkable};
 ghost use Rattle.scp_sharing.specs.RewriteFault.{badWords, wordsThenShared, rewriteFault};
 use refusals::Refusal;
 use scp_lookup::RevolutionAnswer;
@@ -26,6 +26,12 @@ pub struct Extent {
 pub struct Stand {
     pub numbers: Extent,
     pub flux: Extent,
+}
+
+// All that a rewrite stands on lies from the one offset up to the other, which is the largest number where it would be more.
+struct Span {
+    from: usize,
+    to: usize,
 }
 
 // The bytes of duration and count.
@@ -57,6 +63,43 @@ fn hits(s: Stand, x: Extent) -> bool
         return true;
     }
     meet(s.flux, x)
+}
+
+// Where an extent ends, or the largest number where that is more.
+fn end_of(x: Extent) -> usize
+    ensures { λ r. ⌜ (r < 18_446_744_073_709_551_615 → x .start + x .size ≤ r) ⌝ }
+{
+    if x.size <= usize::MAX - x.start {
+        return x.start + x.size;
+    }
+    usize::MAX
+}
+
+fn lesser(a: usize, b: usize) -> usize
+    ensures { λ r. ⌜ (r ≤ a) × (r ≤ b) ⌝ }
+{
+    if a < b {
+        return a;
+    }
+    b
+}
+
+fn greater(a: usize, b: usize) -> usize
+    ensures { λ r. ⌜ (a ≤ r) × (b ≤ r) ⌝ }
+{
+    if a < b {
+        return b;
+    }
+    a
+}
+
+// What a rewrite stands on, from its first byte to its last.
+fn span_of(s: Stand) -> Span
+    ensures { λ r. ⌜ Spans s (r .from) (r .to) ⌝ }
+{
+    let from = lesser(s.numbers.start, s.flux.start);
+    let to = greater(end_of(s.numbers), end_of(s.flux));
+    Span { from, to }
 }
 
 // The bytes from one offset up to another.
@@ -93,7 +136,7 @@ fn inner32(image: &[u8], at: usize) -> u32
 // The flux of revolution j of the track header at e.
 fn flux_extent(image: &[u8], e: u32, j: u32) -> Extent
     requires { ⌜ revolutionAt e j + 12 ≤ length (now image) ⌝ }
-    ensures { λ r. ⌜ r ≡ fluxExtent (now (image .entry)) e j ⌝ }
+    ensures { λ r. ⌜ (r ≡ fluxExtent (now (image .entry)) e j) × (r .start + r .size < 68_719_476_736) ⌝ }
 {
     let at = record_at(e, j);
     let words = inner32(image, at + 4);
@@ -136,15 +179,23 @@ fn header_hit(image: &[u8], s: Stand, t: u32, k: u32, u: u32, e: u32) -> bool
     hits(s, Extent { start, size })
 }
 
-// The flux of revolution j of track u, whose header is at e; never the rewrite's own.
-fn flux_hit(image: &[u8], s: Stand, t: u32, k: u32, u: u32, e: u32, j: u32) -> bool
-    requires { ⌜ revolutionAt e j + 12 ≤ length (now image) ⌝ }
+// The flux of revolution j of track u, whose header is at e; never the rewrite's own. Most flux lies behind or before all that the rewrite
+// stands on, and is not looked at further.
+fn flux_hit(image: &[u8], s: Stand, span: Span, t: u32, k: u32, u: u32, e: u32, j: u32) -> bool
+    requires { ⌜ (revolutionAt e j + 12 ≤ length (now image)) × Spans s (span .from) (span .to) ⌝ }
     ensures { λ r. ⌜ r ≡ anyOf (hit s) (fluxClaim (now (image .entry)) t k u e j) ⌝ }
 {
+    let x = flux_extent(image, e, j);
+    if span.to < x.start {
+        return false;
+    }
+    if x.start + x.size <= span.from {
+        return false;
+    }
     if (u == t) & (j == k) {
         return false;
     }
-    hits(s, flux_extent(image, e, j))
+    hits(s, x)
 }
 
 // The flux of the revolutions of track u, whose header is at e.
@@ -153,9 +204,10 @@ fn fluxes_hit(image: &[u8], s: Stand, t: u32, k: u32, u: u32, e: u32) -> bool
     ensures { λ r. ⌜ r ≡ anyOf (hit s) (fluxClaims (now (image .entry)) t k u e) ⌝ }
 {
     let n = scp_fields::revolutions(image) as u32;
+    let span = span_of(s);
     let mut j: u32 = 0;
     while j < n {
-        if flux_hit(image, s, t, k, u, e, j) {
+        if flux_hit(image, s, span, t, k, u, e, j) {
             return true;
         }
         j += 1;

@@ -209,12 +209,14 @@ fn track_fields(d: TrackData) {
     number_32(d.revolutions);
 }
 
-// The first, the fifth and the sixth, the middle and the last of 255, and two that no track has.
+// The first, the last of 5, 6, 9, 200 and 255, the middle of 255, and two that no track has.
 fn print_revolutions(image: &[u8], t: u32) {
     print_revolution(image, t, 0);
     print_revolution(image, t, 4);
     print_revolution(image, t, 5);
+    print_revolution(image, t, 8);
     print_revolution(image, t, 127);
+    print_revolution(image, t, 199);
     print_revolution(image, t, 254);
     print_revolution(image, t, 255);
     print_revolution(image, t, u32::MAX);

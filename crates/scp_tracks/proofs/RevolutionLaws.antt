@@ -1,12 +1,12 @@
 -- A revolution is present where its number is below the image's, and its offset is the exact sum.
 use Prim.Native.Nat.{ℕ, _+_, _<_, _≤_}
-use mathlib.Core.Path.{_≡_, sym, ap, _∙_}
+use mathlib.Core.Path.{_≡_, refl, sym, ap, _∙_}
 use mathlib.Core.List.{List}
-use mathlib.Core.Bool.{true, false, or-true}
+use mathlib.Core.Bool.{Bool, true, false, or-true}
 use native.Mathlib.Omega.{arith}
 use lib.ListN.{length}
 use lib.Dec.{ltb}
-use borrow.Author.Tests.{lt-ltb, le-ltb, le-leb, lt-leb, ltb-false}
+use borrow.Author.Tests.{ltb-true, ltb-false, lt-ltb, le-ltb, le-leb, lt-leb}
 use Rattle.refusals.specs.Refusals.{refuseIf}
 use Rattle.scp_fields.specs.Header.{tableEnd, revolutions, dataEnd}
 use Rattle.refusals.proofs.Finding.{neither}
@@ -52,15 +52,22 @@ module _ (b : List ℕ) (e t : ℕ) where
   unfolding badTrack
   track-in l h = sym (simp (le-ltb _ _ l, le-ltb _ _ h))
 
-  -- one that is not bad lies inside the image
-  pub track-inside : badTrack b e t ≡ false → e + headerSize b ≤ length b
+  -- one that is not bad ends with the data or before
+  pub track-inside : badTrack b e t ≡ false → e + headerSize b ≤ dataEnd b
   unfolding badTrack
   track-inside h =
       let past = neither (ltb (dataEnd b) (e + headerSize b)) _ (neither (ltb e tableEnd) _ h .1) .0 in
-      let below = ltb-false (dataEnd b) (e + headerSize b) past in
-      omega arith
+      ltb-false (dataEnd b) (e + headerSize b) past
 
 -- ---- offsets
+
+-- what ends past the room behind a header ends past the data
+pub room-past : (e room d n : ℕ) {end : ℕ} → e + room ≡ end → ltb room (d + n) ≡ ltb end (e + d + n)
+room-past e room d n {end} q = by (ltb room (d + n)) refl
+  where
+    by : (t : Bool) → ltb room (d + n) ≡ t → ltb room (d + n) ≡ ltb end (e + d + n)
+    by true h = let past = ltb-true room (d + n) h in h ∙ sym (lt-ltb end (e + d + n) (omega arith))
+    by false h = let within = ltb-false room (d + n) h in h ∙ sym (le-ltb end (e + d + n) (omega arith))
 
 -- two numbers of 32 bits
 pub exact-offset : (h d : ℕ) → h < 4_294_967_296 → d < 4_294_967_296 → offsetOf h d ≡ h + d

@@ -4,6 +4,7 @@ ghost use mathlib.Core.Path.{_≡_};
 ghost use Prim.Native.Nat.{_+_, _<_, _≤_};
 ghost use lib.ListN.{length};
 ghost use Rattle.octets.specs.Numbers.{le32At};
+ghost use Rattle.scp_fields.specs.Header.{dataEnd};
 ghost use Rattle.scp_tracks.specs.Tracks.{
   cylinderOf,
   headOf,
@@ -199,27 +200,33 @@ fn bad_track(image: &[u8], e: usize, t: u32) -> bool
     bad_mark(image, e, t)
 }
 
-// Whether the flux of revolution k of the track data header at e ends past the data.
-fn flux_past(image: &[u8], e: u32, k: u32) -> bool
-    requires { ⌜ revolutionAt e k + 12 ≤ length (now image) ⌝ }
+// Whether the flux of revolution k of the track data header at e ends past the data, which end so many bytes behind the header's first.
+fn flux_past(image: &[u8], e: u32, k: u32, room: u64) -> bool
+    requires { ⌜ (revolutionAt e k + 12 ≤ length (now image)) × (e + room ≡ dataEnd (now image)) ⌝ }
     ensures { λ r. ⌜ r ≡ fluxPast (now (image .entry)) e k ⌝ }
 {
-    let data = inner_record(image, e, k);
-    (scp_fields::data_end(image) as u64) < data.offset.0 + 2 * (data.words as u64)
+    let at = e as usize + record_offset(k);
+    let words = inner32(image, at + 4);
+    let distance = inner32(image, at + 8);
+    room < (distance as u64) + 2 * (words as u64)
 }
 
-// Whether the flux of a revolution of the track data header at e ends past the data.
+// Whether the flux of a revolution of the track data header at e ends past the data. Two revolutions are tested at a time.
 fn bad_flux(image: &[u8], e: u32) -> bool
-    requires { ⌜ e + headerSize (now image) ≤ length (now image) ⌝ }
+    requires { ⌜ e + headerSize (now image) ≤ dataEnd (now image) ⌝ }
     ensures { λ r. ⌜ r ≡ badFlux (now (image .entry)) e ⌝ }
 {
     let n = scp_fields::revolutions(image) as u32;
+    let room = (scp_fields::data_end(image) - e as usize) as u64;
     let mut k: u32 = 0;
-    while k < n {
-        if flux_past(image, e, k) {
+    while k + 1 < n {
+        if flux_past(image, e, k, room) | flux_past(image, e, k + 1, room) {
             return true;
         }
-        k += 1;
+        k += 2;
+    }
+    if k < n {
+        return flux_past(image, e, k, room);
     }
     false
 }

@@ -96,24 +96,24 @@ fn check_track(image: &[u8], track: usize, entry: u64, revolutions: usize, end: 
     if entry < TABLE_END || entry + 4 + 12 * revolutions as u64 > end {
         return Err(10);
     }
-    let header = &image[entry as usize..];
+    let header = &image[entry as usize..][..4 + 12 * revolutions];
     if !header.starts_with(b"TRK") || usize::from(header[3]) != track {
         return Err(10);
     }
-    let ends = |k| {
-        let revolution = revolution_at(image, entry, k);
+    let ends = |record: &[u8]| {
+        let revolution = of_record(entry, record);
         revolution.place + 2 * u64::from(revolution.words) <= end
     };
-    if (0..revolutions).all(ends) {
+    if header[4..].chunks_exact(12).all(ends) {
         Ok(())
     } else {
         Err(11)
     }
 }
 
-fn revolution_at(image: &[u8], entry: u64, k: usize) -> Revolution {
-    let at = entry as usize + 4 + 12 * k;
-    Revolution { duration: le32(image, at), words: le32(image, at + 4), place: entry + u64::from(le32(image, at + 8)) }
+/// A revolution by its record, 12 bytes of the track data header at an entry.
+fn of_record(entry: u64, record: &[u8]) -> Revolution {
+    Revolution { duration: le32(record, 0), words: le32(record, 4), place: entry + u64::from(le32(record, 8)) }
 }
 
 /// Refusals 1 to 12.
@@ -150,7 +150,7 @@ fn find(image: &[u8], table: &[u32; 168], track: u32, revolution: u32) -> Result
     if revolution >= image[5].into() {
         return Err((14, 0));
     }
-    Ok(revolution_at(image, entry.into(), revolution as usize))
+    Ok(of_record(entry.into(), &image[entry as usize + 4 + 12 * revolution as usize..][..12]))
 }
 
 fn check_flux(flux: &[u8]) -> Result<(), Refused> {
@@ -267,11 +267,11 @@ fn shared(image: &[u8], table: &[u32; 168], track: usize, k: usize, found: Revol
             true => hit((entry, numbers.0)) || hit((numbers.1, entry + size)),
             false => hit((entry, entry + size)),
         };
-        let of_revolution = |j: usize| {
-            let other_flux = revolution_at(image, entry, j);
+        let of_revolution = |(j, record): (usize, &[u8])| {
+            let other_flux = of_record(entry, record);
             (other, j) != (track, k) && hit((other_flux.place, other_flux.place + 2 * u64::from(other_flux.words)))
         };
-        header || (0..revolutions).any(of_revolution)
+        header || image[entry as usize + 4..][..12 * revolutions].chunks_exact(12).enumerate().any(of_revolution)
     };
     let strings = || {
         let footer = image.len() - 48;

@@ -46,20 +46,46 @@ fn image_case(random: &mut Random) -> Case {
     Case { bytes, questions }
 }
 
-/// Every question about every track and revolution of an image, with as many places as needed; no rewrite.
-pub fn every_question(image: &[u8]) -> Vec<Question> {
-    let mut questions = vec![Question::Validate, Question::Header { places: 9 }, Question::Footer { places: 13 }];
-    let revolutions = revolutions(image);
+/// The questions about an image as a whole, with as many places as needed.
+fn of_image() -> [Question; 3] {
+    [Question::Validate, Question::Header { places: 9 }, Question::Footer { places: 13 }]
+}
+
+/// The questions about a track, with as many places as needed.
+fn of_track(track: u32) -> [Question; 2] {
+    [Question::Track { track, places: 4 }, Question::TrackSpeed { track, places: 3 }]
+}
+
+/// The questions about a revolution, with as many places as needed.
+fn of_revolution(image: &[u8], track: u32, revolution: u32) -> [Question; 3] {
+    let size = 2 * count(image, track, revolution).min(1 << 20) as usize;
+    [
+        Question::Revolution { track, revolution, places: 3 },
+        Question::Flux { track, revolution, places: size },
+        Question::Speed { track, revolution, places: 2 },
+    ]
+}
+
+/// Every question about an image, all 168 tracks and one more, and all revolutions of each present track and one more; of an absent track
+/// revolution 0 and the one more. No rewrite.
+fn every_question(image: &[u8]) -> Vec<Question> {
+    let mut questions = of_image().to_vec();
+    let beyond = revolutions(image);
     for track in 0..169 {
-        questions.push(Question::Track { track, places: 4 });
-        questions.push(Question::TrackSpeed { track, places: 3 });
+        questions.extend(of_track(track));
         let present = track < 168 && number_at(image, entry_at(track as usize)) != 0;
-        for revolution in if present { 0..=revolutions } else { revolutions..=revolutions } {
-            let size = 2 * count(image, track, revolution).min(1 << 20) as usize;
-            questions.push(Question::Revolution { track, revolution, places: 3 });
-            questions.push(Question::Flux { track, revolution, places: size });
-            questions.push(Question::Speed { track, revolution, places: 2 });
-        }
+        let asked = if present { (0..=beyond).collect() } else { vec![0, beyond] };
+        questions.extend(asked.into_iter().flat_map(|revolution| of_revolution(image, track, revolution)));
+    }
+    questions
+}
+
+/// The questions about an image, some of its tracks, and some revolutions of each.
+pub fn some_questions(image: &[u8], tracks: &[u32], revolutions: &[u32]) -> Vec<Question> {
+    let mut questions = of_image().to_vec();
+    for &track in tracks {
+        questions.extend(of_track(track));
+        questions.extend(revolutions.iter().flat_map(|&revolution| of_revolution(image, track, revolution)));
     }
     questions
 }

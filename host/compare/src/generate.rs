@@ -6,7 +6,7 @@ use crate::image::{
 };
 use crate::random::Random;
 
-/// The most revolutions of all tracks together.
+/// The most revolutions of all tracks together: four tracks of 255, or all tracks of six.
 const MOST_RECORDS: usize = 1020;
 
 /// An image by chance: valid, or with a fault or several.
@@ -36,8 +36,7 @@ pub fn parts(random: &mut Random) -> Parts {
     let mut flags = random.byte() & 0xCF;
     flags |= 0x10 * u8::from(read_write) + 0x20 * u8::from(footer.is_some());
     let (start, end) = span(random);
-    let mut numbers = numbers(random, start, end, heads);
-    numbers.truncate(MOST_RECORDS / usize::from(revolutions));
+    let numbers = numbers(random, start, end, heads, MOST_RECORDS / usize::from(revolutions));
     let tracks = numbers.into_iter().map(|number| track(random, number, revolutions)).collect();
     let trailer = if random.once_in(3) { b"01/02/2026 12:34:56 PM".to_vec() } else { Vec::new() };
     let layout = random.pick(&[Layout::InOrder, Layout::Gaps, Layout::Shuffled]);
@@ -62,14 +61,15 @@ fn span(random: &mut Random) -> (u8, u8) {
     (start, end)
 }
 
-/// The numbers of the tracks that are there: none, a few, or all that may be.
-fn numbers(random: &mut Random, start: u8, end: u8, heads: u8) -> Vec<u8> {
+/// The numbers of the tracks that are there: none, a few, or all that may be, at most so many.
+fn numbers(random: &mut Random, start: u8, end: u8, heads: u8, most: usize) -> Vec<u8> {
     let held = |number: &u8| heads == 0 || u8::from(heads == 2) == number % 2;
     let rarity = random.pick(&[1, 2, 2, 4, 30]);
     let mut numbers: Vec<u8> = (start..=end).filter(held).collect();
-    if numbers.len() > 12 && !random.once_in(40) {
+    let kept = if numbers.len() > 12 && !random.once_in(40) { 6.min(most) } else { most };
+    if numbers.len() > kept {
         random.shuffle(&mut numbers);
-        numbers.truncate(6);
+        numbers.truncate(kept);
         numbers.sort_unstable();
     }
     numbers.retain(|_| random.once_in(rarity));
@@ -309,7 +309,9 @@ fn spoil_track(parts: &Parts, placed: &mut Placed, random: &mut Random) {
     let slot = entry_at(parts.tracks[track].number.into());
     let end = placed.image.len() as u32;
     let near = random.below(50) as u32;
-    let values = [header as u32 + 1, header as u32 - 1, end.saturating_sub(near), end + near, u32::MAX - near, 687, 688];
+    // where a header just fits before the end, and a byte later
+    let last = end.saturating_sub(duration_at(0, parts.revolutions.into()) as u32);
+    let values = [header as u32 + 1, header as u32 - 1, last, last + 1, end.saturating_sub(near), end + near, u32::MAX - near, 687, 688];
     match random.below(4) {
         0 => {
             // a header that starts in the table's last bytes

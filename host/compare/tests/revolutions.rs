@@ -1,6 +1,6 @@
 //! Images of few and of many revolutions, read-only and read/write (L-3, R-4): validated, read, rewritten, and compared.
 
-use scp_compare::cases::{agree, revolutions};
+use scp_compare::cases::{agree, revolutions, some_questions};
 use scp_compare::image::{duration_at, set, store_checksum, TABLE_END};
 use scp_compare::outside::{image, Style, CAPTURE};
 use scp_compare::question::{compare, number, Question};
@@ -108,6 +108,10 @@ fn what_refuses_the_last_of_255_revolutions() {
         ("its header in place, its flux not there", 3_752, count(1), [11; 5]),
         ("the last flux a byte too short", 4_261, count(1), [11; 5]),
         ("the last flux a word longer", 4_262, count(2), [11; 5]),
+        ("the last count 2^31", 4_262, count(1 << 31), [11; 5]),
+        ("the last count the largest", 4_262, count(u32::MAX), [11; 5]),
+        ("the last distance the largest", 4_262, (last + 8, u32::MAX), [11; 5]),
+        ("the last distance 2^32 less that of the header", 4_262, (last + 8, 688_u32.wrapping_neg()), [11; 5]),
         ("no flux in the last", 4_262, count(0), [0, 0, 0, 17, 14]),
         ("the last flux is the first", 4_262, (last + 8, 3_064), [0, 18, 0, 18, 14]),
         ("the first flux on the duration of the last", 4_262, (first + 8, 3_052), [0, 18, 0, 18, 14]),
@@ -121,19 +125,14 @@ fn what_refuses_the_last_of_255_revolutions() {
     }
 }
 
-/// Questions and a rewrite of the first, the middle and the last revolution on three tracks of an image, the first track, one in the middle
-/// and the last; and of a revolution that is not there.
+/// Questions about the first, the middle and the last revolution on three tracks of an image, the first, one in the middle and the last, and a
+/// rewrite of one of them on each; and a revolution that is not there.
 fn agree_on_some(image: &[u8], last_track: u32) {
-    let mut questions = vec![Question::Validate, Question::Header { places: 9 }, Question::Footer { places: 13 }];
-    for track in [0, last_track / 2, last_track] {
-        questions.extend([Question::Track { track, places: 4 }, Question::TrackSpeed { track, places: 3 }]);
-        for revolution in first_middle_last(image) {
-            let flux = scp::flux(image, track, revolution).unwrap();
-            questions.push(Question::Revolution { track, revolution, places: 3 });
-            questions.push(Question::Flux { track, revolution, places: flux.len() });
-            questions.push(Question::Speed { track, revolution, places: 2 });
-            questions.push(Question::Rewrite { track, revolution, duration: 8_000_000, words: flux.iter().rev().copied().collect() });
-        }
+    let (tracks, asked) = ([0, last_track / 2, last_track], first_middle_last(image));
+    let mut questions = some_questions(image, &tracks, &asked);
+    for (track, revolution) in tracks.into_iter().zip(asked) {
+        let words = scp::flux(image, track, revolution).unwrap().iter().rev().copied().collect();
+        questions.push(Question::Rewrite { track, revolution, duration: 8_000_000, words });
     }
     for question in questions {
         assert_eq!(number(image, &question), Ok(0), "{question:?}");

@@ -1,6 +1,6 @@
 //! Walks over flux, an interval at a time.
 
-use scp::{Refusal, Revolution, Step};
+use scp::{Refusal, Step};
 
 use crate::failure::Failure;
 use crate::files::Input;
@@ -9,14 +9,6 @@ use crate::files::Input;
 pub fn each_interval(input: &Input, place: (u32, u32), take: impl FnMut(u64) -> Result<(), Failure>) -> Result<u64, Failure> {
     let flux = input.ask_of(place, scp::flux)?;
     walk(flux, |refusal| input.failure(refusal), take)
-}
-
-/// A revolution, how many intervals it has, and its open time; the image is opened once for all three.
-pub fn count_revolution(image: &[u8], track: u32, revolution: u32) -> Result<(Revolution, u64, u64), Refusal> {
-    let found = scp::revolution(image, track, revolution)?;
-    let start = found.offset as usize;
-    let (intervals, open) = count_intervals(&image[start..start + 2 * found.words as usize])?;
-    Ok((found, intervals, open))
 }
 
 /// How many intervals flux has, and its open time.

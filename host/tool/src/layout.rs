@@ -98,10 +98,9 @@ impl<'a> Layout<'a> {
         (0..).zip(entries).filter(|&(_, entry)| entry != 0)
     }
 
-    /// The revolutions of each track; none where their number is refused, since it cannot be told then where the records end.
+    /// The revolutions of each track.
     pub fn revolutions(self) -> u32 {
-        let header = self.header().filter(|header| !revolutions_are_refused(header));
-        header.map_or(0, |header| header.revolutions.into())
+        self.header().map_or(0, |header| header.revolutions.into())
     }
 
     /// How many bytes each track data header has.
@@ -136,9 +135,4 @@ impl<'a> Layout<'a> {
     pub fn is_cut(self) -> bool {
         self.0.len() > LONGEST_IMAGE
     }
-}
-
-/// Whether the number of revolutions is refused: 0, or more than 1 on a read/write image.
-pub fn revolutions_are_refused(header: &Header) -> bool {
-    header.revolutions == 0 || header.is_read_write() && header.revolutions > 1
 }

@@ -5,7 +5,7 @@ use std::io::Write;
 use crate::arguments::{Arguments, Command};
 use crate::failure::{Failure, Status};
 use crate::files::Input;
-use crate::flux::count_revolution;
+use crate::flux::count_intervals;
 
 /// The command.
 pub const COMMAND: Command = Command { name: "list", flags: &[], values: &[], help: include_str!("help/list.txt"), run };
@@ -33,7 +33,8 @@ fn run(arguments: &Arguments, out: &mut dyn Write) -> Result<(), Failure> {
 /// The line of a revolution; the rules call it a turn.
 fn say_revolution(input: &Input, place: (u32, u32), out: &mut dyn Write) -> Result<(), Failure> {
     let (track, revolution) = place;
-    let (found, intervals, open) = input.ask_of(place, count_revolution)?;
+    let found = input.ask_of(place, scp::revolution)?;
+    let (intervals, open) = input.ask_of(place, |image, track, revolution| count_intervals(scp::flux(image, track, revolution)?))?;
     let (ticks, words) = (found.duration, found.words);
     Ok(writeln!(out, "track {track} turn {revolution} ticks {ticks} words {words} intervals {intervals} open {open}")?)
 }

@@ -12,7 +12,7 @@ use crate::checksum::Checksum;
 use crate::dates::utc;
 use crate::failure::{Failure, Status};
 use crate::files::Input;
-use crate::flux::count_revolution;
+use crate::flux::count_intervals;
 use crate::numbers::{grouped, milliseconds};
 use crate::reasons::{self, Fault};
 
@@ -181,8 +181,10 @@ fn say_revolutions(input: &Input, tracks: &[u32], out: &mut dyn Write) -> Result
     for &track in tracks {
         for revolution in 0..u32::from(revolutions) {
             let place = (track, revolution);
-            let (found, intervals, open) = input.ask_of(place, count_revolution)?;
+            let found = input.ask_of(place, scp::revolution)?;
             let speed = rpm(input.ask_of(place, scp::speed)?);
+            let (intervals, open) =
+                input.ask_of(place, |image, track, revolution| count_intervals(scp::flux(image, track, revolution)?))?;
             let (ticks, ms, words) = (found.duration, milliseconds(u64::from(found.duration)), found.words);
             writeln!(out, "{track:>5} {revolution:>3} {ticks:>10} {ms:>13} {words:>10} {intervals:>10} {open:>13} {speed:>14}")?;
         }

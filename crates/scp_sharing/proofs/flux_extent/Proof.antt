@@ -41,8 +41,8 @@ returns c =
     let at = at-record .record-at .ensures .0 in
     let words = at-words .inner32 .ensures ∙ ap (λ (i : ℕ). le32At (a .image .now) (i + 4)) at in
     let distance = at-distance .inner322 .ensures ∙ ap (λ (i : ℕ). le32At (a .image .now) (i + 8)) at in
-    extent-is (c .file-offset .ensures ∙ exact-offset _ _ (search needs) (search needs) ∙ ap (λ (d : ℕ). a .e + d) distance)
-    (ap (λ (n : ℕ). 2 * n) words)
+    let exact = c .file-offset .ensures ∙ exact-offset (a .e) (at-distance .inner322 .result) (search needs) (search needs) in
+    (extent-is (exact ∙ ap (λ (d : ℕ). a .e + d) distance) (ap (λ (n : ℕ). 2 * n) words), search needs)
 
 pub flux-extent-spec : {M : Type 1} → statement M
 flux-extent-spec =

@@ -18,12 +18,12 @@ abbrev fluxHit : List ℕ → Stand → ℕ → ℕ → ℕ → ℕ → ℕ → 
 fluxHit b s t k u e j = anyOf (hit s) (fluxClaim b t k u e j)
 
 abbrev Inv-loop : tie.InvT-loop
-Inv-loop image s t k u e n j₀ j =
+Inv-loop image s t k u e n span j₀ j =
     (n ≡ revolutions image) × (n < 256) × (j ≤ n)
     × (anyFrom (fluxHit image s t k u e) j (n - j) ≡ anyOf (hit s) (fluxClaims image t k u e))
 
 abbrev μ-loop : tie.MeasureT-loop
-μ-loop image s t k u e n j₀ j = n - j
+μ-loop image s t k u e n span j₀ j = n - j
 
 revolutions-requires : tie.Need-revolutions-requires Inv-loop μ-loop
 revolutions-requires c κs = search needs
@@ -31,14 +31,17 @@ revolutions-requires c κs = search needs
 cast-n : tie.Need-cast-n Inv-loop μ-loop
 cast-n c = search needs
 
+span-of-requires : tie.Need-span-of-requires Inv-loop μ-loop
+span-of-requires c κs = search needs
+
 loop-holds : tie.Need-loop-holds Inv-loop μ-loop
 loop-holds c =
-    let a = c .before .before .args in
-    let n = c .revolutions .ensures in
+    let a = c .before .before .before .args in
+    let n = c .before .revolutions .ensures in
     (n .0, n .1, search needs, any-start (hit (a .s)) (fluxClaim (a .image .now) (a .t) (a .k) (a .u) (a .e)) (n .0))
 
 flux-hit-requires : tie.Need-flux-hit-requires Inv-loop μ-loop
-flux-hit-requires c κs = search needs
+flux-hit-requires c κs = (search needs, c .before .before .span-of .ensures)
 
 returns : tie.Need-returns Inv-loop μ-loop
 returns c =
@@ -68,6 +71,7 @@ fluxes-hit-spec =
     μ-loop
     revolutions-requires
     cast-n
+    span-of-requires
     loop-holds
     flux-hit-requires
     returns

@@ -11,7 +11,7 @@ flux-extent-requires : tie.Need-flux-extent-requires
 flux-extent-requires c κs = search needs
 
 returns : tie.Need-returns
-returns c = stand-is (c .before .record-at .ensures .0) (c .flux-extent .ensures)
+returns c = stand-is (c .before .record-at .ensures .0) (c .flux-extent .ensures .0)
 
 pub stand-of-spec : {M : Type 1} → statement M
 stand-of-spec = tie.close (tie.spec record-at-requires flux-extent-requires returns)

@@ -1,21 +1,36 @@
--- The numbers compared are those of the record, as the definition reads them.
-use mathlib.Core.Path.{ap, _∙_}
-use Prim.Native.Nat.{ℕ, _+_, _*_}
-use lib.Dec.{ltb}
+-- The flux ends past the room behind its header exactly if it ends past the data.
+use mathlib.Core.Path.{_∙_}
+use Prim.Native.Nat.{_*_}
 use Rattle.scp_fields.specs.Header.{dataEnd}
-use Rattle.scp_tracks.specs.declared.RevolutionData.{RevolutionData}
+use Rattle.scp_tracks.specs.Tracks.{countAt, distanceAt}
+use Rattle.scp_tracks.proofs.RevolutionLaws.{room-past}
 use borrow.Author.Needs.{needs}
 use Rattle.scp_tracks.proofs.flux_past.Statement.{statement}
 use Rattle.scp_tracks.proofs.flux_past.Tie as tie
 
-inner-record-requires : tie.Need-inner-record-requires
-inner-record-requires c κs = search needs
+record-offset-requires : tie.Need-record-offset-requires
+record-offset-requires c κs = search needs
 
-data-end-requires : tie.Need-data-end-requires
-data-end-requires c κs = search needs
+add-at : tie.Need-add-at
+add-at c = search needs
+
+add-inner32 : tie.Need-add-inner32
+add-inner32 c = search needs
+
+inner32-requires : tie.Need-inner32-requires
+inner32-requires c κs = search needs
+
+add-inner32-2 : tie.Need-add-inner32-2
+add-inner32-2 c = search needs
+
+inner32-requires-2 : tie.Need-inner32-requires-2
+inner32-requires-2 c κs = search needs
 
 cast-result : tie.Need-cast-result
 cast-result c = search needs
+
+cast-result-2 : tie.Need-cast-result-2
+cast-result-2 c = search needs
 
 mul-result : tie.Need-mul-result
 mul-result c = search needs
@@ -25,14 +40,23 @@ add-result c = search needs
 
 returns : tie.Need-returns
 returns c =
-    let at-end = c .before .before in
-    let at-data = at-end .before in
-    let b = at-data .before .before .args .image .now in
-    let d = at-data .inner-record .result in
-    ap (λ (x : ℕ). ltb x (d .offset .0 + 2 * d .words)) (at-end .data-end .ensures)
-    ∙ ap (λ (y : RevolutionData). ltb (dataEnd b) (y .offset .0 + 2 * y .words)) (at-data .inner-record .ensures .0)
+    let args = c .before .before .before .before .args in
+    let b = args .image .now in
+    let past = room-past (args .e) (args .room) (distanceAt b (args .e) (args .k)) (2 * countAt b (args .e) (args .k)) {end = dataEnd b} (search needs) in
+    cc
 
 pub flux-past-spec : {M : Type 1} → statement M
 flux-past-spec =
     tie.close
-    (tie.spec inner-record-requires data-end-requires cast-result mul-result add-result returns)
+    (tie.spec
+    record-offset-requires
+    add-at
+    add-inner32
+    inner32-requires
+    add-inner32-2
+    inner32-requires-2
+    cast-result
+    cast-result-2
+    mul-result
+    add-result
+    returns)

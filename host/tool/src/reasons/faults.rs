@@ -4,7 +4,7 @@ use std::fmt;
 
 use scp::{Footer, Header, Reason, Refusal, LONGEST_IMAGE, STRING_NAMES, TRACKS};
 
-use crate::layout::{revolutions_are_refused, Layout, TrackHeader, FOOTER_SIGN, LEAST_WITH_FOOTER, TABLE_END};
+use crate::layout::{Layout, TrackHeader, FOOTER_SIGN, LEAST_WITH_FOOTER, TABLE_END};
 use crate::numbers::{counted, grouped};
 
 /// The format version of the oldest footer.
@@ -79,9 +79,10 @@ impl Search<'_> {
         if width != 0 && width != 16 {
             self.note(Reason::Width, format!("byte 0x09 is {width}, not 0 or 16"));
         }
-        if revolutions_are_refused(header) {
-            let due = if revolutions == 0 { "where 1 is the least" } else { "but a read/write image (FLAGS bit 4) has 1" };
-            self.note(Reason::Revolutions, format!("byte 0x05 is {revolutions}, {due}"));
+        if revolutions == 0 {
+            self.note(Reason::Revolutions, format!("byte 0x05 is {revolutions}, not 1 to 255"));
+        } else if header.is_read_write() && revolutions > 1 {
+            self.note(Reason::Revolutions, format!("byte 0x05 is {revolutions}, but a read/write image (FLAGS bit 4) has 1"));
         }
         if start > end {
             self.note(Reason::Span, format!("the start track {start} is above the end track {end}"));

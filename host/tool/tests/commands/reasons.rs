@@ -35,7 +35,7 @@ fn cases() -> Vec<(Vec<u8>, &'static str, &'static str)> {
         (vec![0; 687], "1 at 0", "1 Size: 687 bytes, fewer than 688"),
         (a(0, b"SPC"), "2 at 0", "2 Sign: the first three bytes are 53 50 43, not SCP"),
         (a(9, &[8]), "3 at 0", "3 Width: byte 0x09 is 8, not 0 or 16"),
-        (a(5, &[0]), "4 at 0", "4 Revolutions: byte 0x05 is 0, where 1 is the least"),
+        (a(5, &[0]), "4 at 0", "4 Revolutions: byte 0x05 is 0, not 1 to 255"),
         (changed(three_tracks(), 8, &[0x10]), "4 at 0", "4 Revolutions: byte 0x05 is 2, but a read/write image (FLAGS bit 4) has 1"),
         (a(6, &[9, 3]), "5 at 0", "5 Span: the start track 9 is above the end track 3"),
         (a(7, &[168]), "5 at 0", "5 Span: the end track 168 is above 167"),
@@ -101,7 +101,7 @@ fn a_file_longer_than_any_image_is_told() {
     let due = [
         "b.scp: refused 1 Size: more than 268,435,456 bytes",
         "b.scp: also 2 Sign: the first three bytes are 00 00 00, not SCP",
-        "b.scp: also 4 Revolutions: byte 0x05 is 0, where 1 is the least",
+        "b.scp: also 4 Revolutions: byte 0x05 is 0, not 1 to 255",
     ];
     assert_eq!((run.status, run.out), (1, due.join("\n") + "\n"));
     assert!(bench.run("show b.scp").out.contains("at least 268,435,457 bytes"));
@@ -189,15 +189,19 @@ fn a_time_that_no_words_express_is_told_with_its_line() {
 }
 
 #[test]
-fn a_wrong_number_of_revolutions_makes_no_other_faults() {
+fn no_revolutions_and_too_many_on_a_read_write_image_make_no_other_faults() {
     let bench = Bench::new();
-    let (least, most) = ("where 1 is the least", "but a read/write image (FLAGS bit 4) has 1");
-    for (flags, revolutions, due) in [(0x00, 0, least), (0x10, 0, least), (0x10, 2, most), (0x10, 200, most), (0x10, 255, most)] {
+    let last = "    3   1          2      0.000050          1          1             0\n";
+    for (flags, revolutions, due, shown_last) in [
+        (0x00, 0, "not 1 to 255", "open ticks\n"),
+        (0x10, 0, "not 1 to 255", "open ticks\n"),
+        (0x10, 2, "but a read/write image (FLAGS bit 4) has 1", last),
+    ] {
         bench.put("b.scp", &changed(changed(three_tracks(), 8, &[flags]), 5, &[revolutions]));
         let due = format!("b.scp: refused 4 Revolutions: byte 0x05 is {revolutions}, {due}\n");
         assert_eq!(bench.refuses("validate --all b.scp"), due);
         let shown = bench.refuses("show b.scp");
-        assert!(shown.contains("0x000002B0  -\n") && shown.ends_with("open ticks\n"), "{shown}");
+        assert!(shown.contains("0x000002B0  -\n") && shown.ends_with(shown_last), "{shown}");
     }
 }
 
