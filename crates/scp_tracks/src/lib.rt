@@ -206,9 +206,9 @@ fn flux_past(image: &[u8], e: u32, k: u32, room: u64) -> bool
     ensures { λ r. ⌜ r ≡ fluxPast (now (image .entry)) e k ⌝ }
 {
     let at = e as usize + record_offset(k);
-    let words = inner32(image, at + 4);
+    let count = inner32(image, at + 4);
     let distance = inner32(image, at + 8);
-    room < (distance as u64) + 2 * (words as u64)
+    room < (distance as u64) + 2 * (count as u64)
 }
 
 // Whether the flux of a revolution of the track data header at e ends past the data. Two revolutions are tested at a time.

@@ -162,7 +162,7 @@ fn writing(rounds: usize) {
     ratio("make the words of 50,000 times", rounds, 50, library, plain);
 }
 
-/// One rewrite on an image with all 168 tracks.
+/// One rewrite on an image with all 168 tracks: where the flux of most others lies behind it, and where it lies before.
 fn rewriting(rounds: usize) {
     for (name, words, times, style) in [
         ("read-only, 5 revolutions", 1000, 1000, Style { last_track: 167, ..CAPTURE }),
@@ -172,16 +172,18 @@ fn rewriting(rounds: usize) {
         let mut mine = image(&style, words);
         let mut other = mine.clone();
         let new = flux_bytes(&flux_words(&mut Random::new(3), words));
-        let library = || rewrite(black_box(&mut mine), &new);
-        let plain = || code(plain::rewrite(black_box(&mut other), 16, 0, 8_000_001, &new));
-        ratio(&format!("rewrite {words} words among 168 tracks ({name})"), rounds, times, library, plain);
-        assert!(mine == other, "the two images do not agree");
+        for track in [16, 167] {
+            let library = || rewrite(black_box(&mut mine), track, &new);
+            let plain = || code(plain::rewrite(black_box(&mut other), track, 0, 8_000_001, &new));
+            ratio(&format!("rewrite {words} words of track {track} among 168 ({name})"), rounds, times, library, plain);
+            assert!(mine == other, "the two images do not agree");
+        }
     }
 }
 
 /// A rewrite that is accepted.
-fn rewrite(image: &mut [u8], new: &[u8]) -> u64 {
-    assert_eq!(raw::rewrite(image, 16, 0, 8_000_001, new), 0, "the rewrite is accepted");
+fn rewrite(image: &mut [u8], track: u32, new: &[u8]) -> u64 {
+    assert_eq!(raw::rewrite(image, track, 0, 8_000_001, new), 0, "the rewrite is accepted");
     0
 }
 
@@ -197,7 +199,9 @@ fn growth(rounds: usize) {
         let name = format!("{tracks} tracks of {revolutions} revolutions");
         let (first, second) = ((more_times, || ask(black_box(&fewer))), (times, || ask(black_box(&most))));
         beside(&format!("open {name} and ask for one"), rounds, first, second);
-        let (first, second) = ((more_times, || rewrite(black_box(&mut fewer), &new)), (times, || rewrite(black_box(&mut most), &new)));
-        beside(&format!("rewrite {words} words among {name}"), rounds, first, second);
+        let last = u32::from(tracks - 1);
+        let (first, second) =
+            ((more_times, || rewrite(black_box(&mut fewer), last, &new)), (times, || rewrite(black_box(&mut most), 167, &new)));
+        beside(&format!("rewrite {words} words of the last track of {name}"), rounds, first, second);
     }
 }
