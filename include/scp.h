@@ -10,8 +10,7 @@
  * An array passes as a pointer and the number of its elements. A pointer is never null and is aligned for its type, even where the
  * number is 0. The arrays of one call do not overlap, unless the call writes none of them; nobody else writes them meanwhile.
  *
- * A tick is 25 ns. A track is a number from 0 to 167, a revolution one from 0 to 254; any other has its
- * refusal. */
+ * A tick is 25 ns. A track is a number from 0 to 167, a revolution a number from 0 to 254; any other number has its refusal. */
 #ifndef SCP_H
 #define SCP_H
 

@@ -38,7 +38,8 @@ ATTEMPTS = [
     (168, 5, 8, b'abc'),
     (2**32 - 1, 0, 9, b''),
 ]
-FOUR, TWO, NONE, ODD, FIVE, TURN_1, TURN_4, TURN_5, TURN_MAX, TURN_6TH, TURN_127, TURN_254, TRACK_1, TRACK_167, TRACK_168, TRACK_MAX = range(16)
+FOUR, TWO, NONE, ODD, FIVE, *OTHERS = range(16)
+TURN_1, TURN_4, TURN_5, TURN_MAX, TURN_5_WORD, TURN_127, TURN_254, TRACK_1, TRACK_167, TRACK_168, TRACK_MAX = OTHERS
 
 
 # ---- making images
@@ -101,7 +102,7 @@ def images():
         'type_bit_is_not_read_write': (one(4, 704, flags=9), fine),
         'no_tracks': (old['no_tracks'], {FOUR: 13, **other}),
         'five_words': (image({0: [(1, [1, 2, 3, 4, 5])]}), {**fine, FIVE: 0}),
-        'revolutions_6': (old['revolutions_6'], {FOUR: 17, NONE: 0, TURN_1: 0, TURN_4: 0, TURN_5: 17, TURN_6TH: 0, TURN_127: 14}),
+        'revolutions_6': (old['revolutions_6'], {FOUR: 17, NONE: 0, TURN_1: 0, TURN_4: 0, TURN_5: 17, TURN_5_WORD: 0, TURN_127: 14}),
         'revolutions_255': (old['revolutions_255'], {FOUR: 17, NONE: 0, TURN_1: 0, TURN_127: 0, TURN_254: 0, TURN_MAX: 14}),
         'track_167': (image({0: [(1, [1, 2, 3, 4])], 167: [(2, [5])]}), {**fine, TRACK_167: 0}),
         # refused before
@@ -129,7 +130,7 @@ def images():
         'turns_flux': (laid({0: (688, [(1, 4, 716), (2, 4, 722)])}, turns=2), {**shared, TURN_1: 18}),
         'turns_flux_a_byte': (laid({0: (688, [(1, 4, 723), (2, 4, 716)])}, turns=2), {**shared, TURN_1: 18}),
         'turns_flux_last': (laid({0: (688, turns_5[:4] + [(9, 1, 767)])}, turns=5), {NONE: 0, TURN_1: 0, TURN_4: 18}),
-        # the flux of the first of 255 turns, and the flux or the numbers of the last
+        # the flux of the first of 255 turns, on the flux, the numbers or the distance of the last
         'turns_255_flux': (of_255(turns_255[:254] + [(9, 1, 3752)]), first_and_last),
         'turns_255_numbers': (of_255([(9, 1, 3740)] + turns_255[1:]), first_and_last),
         'turns_255_distance': (of_255([(9, 1, 3748)] + turns_255[1:]), {**first_and_last, TURN_254: 0}),

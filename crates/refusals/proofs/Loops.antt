@@ -32,7 +32,7 @@ module _ (p : ℕ → Bool) {i n : ℕ} {r : Bool} (inv : anyFrom p i (n - i) �
   unfolding anyFrom
   any-end h = sym (sym inv ∙ ap (anyFrom p i) (left-none i n h))
 
--- the same for a loop that looks at two indices in a turn, and at the last by itself
+-- the same for a loop that looks at two indices in a turn, and at the one that may be left by itself
 module _ (p : ℕ → Bool) (i : ℕ) {n : ℕ} {r : Bool} (inv : anyFrom p i (n - i) ≡ r) where
   pub two-here : i + 1 < n → p i || p (i + 1) ≡ true → true ≡ r
   two-here h t = by (p i) refl

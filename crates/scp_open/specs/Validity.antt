@@ -43,7 +43,7 @@ pub record TrackHolds (b : List ℕ) (e t : ℕ) : Type 0 where
   pub flux : (k : ℕ) → k < revolutions b → fluxAt b e k + 2 * countAt b e k ≤ dataEnd b
 
 -- RO-5, L-19, L-20: the image obeys all that opening asks; tracks, flux and strings may overlap, in any order, with other bytes between.
--- L-3: R is a byte, so that at least 1 is 1 to 255.
+-- L-3: of bytes, R is at most 255, so that at least 1 is 1 to 255.
 pub record Opens (b : List ℕ) : Type 0 where
   pub least : tableEnd ≤ length b
   pub most : length b ≤ sizeLimit

@@ -70,12 +70,13 @@ module _ (p : Extent → Bool) where
     unfolding fluxClaim anyOf
     flux-other j q = simp (q, or-false)
 
-    pub flux-missed : (j : ℕ) → p (fluxExtent b e j) ≡ false → anyOf p (fluxClaim b t k u e j) ≡ false
-    flux-missed j q = by (eqb u t && eqb j k) refl
+    -- where the revolution's flux x does not pass, own or not
+    pub flux-missed : (j : ℕ) {x : Extent} → x ≡ fluxExtent b e j → p x ≡ false → false ≡ anyOf p (fluxClaim b t k u e j)
+    flux-missed j {x} at q = by (eqb u t && eqb j k) refl
       where
-        by : (v : Bool) → (eqb u t && eqb j k) ≡ v → anyOf p (fluxClaim b t k u e j) ≡ false
-        by true own = flux-own j own
-        by false other = flux-other j other ∙ q
+        by : (v : Bool) → (eqb u t && eqb j k) ≡ v → false ≡ anyOf p (fluxClaim b t k u e j)
+        by true own = sym (flux-own j own)
+        by false other = sym (flux-other j other ∙ ap p (sym at) ∙ q)
 
     pub track-none : e ≡ 0 → anyOf p (trackClaim b t k u e) ≡ false
     unfolding trackClaim anyOf

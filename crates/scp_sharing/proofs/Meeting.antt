@@ -103,9 +103,9 @@ module _ (s : Stand) (x : Extent) where
       by false e = e
 
   -- what lies behind or before all that the rewrite stands on is not hit
-  pub hit-behind : {from to : ℕ} → Spans s from to → x .start < 18_446_744_073_709_551_616 → to < x .start → hit s x ≡ false
+  pub hit-behind : {from to : ℕ} → Spans s from to → x .start < 18_446_744_073_709_551_615 → to ≤ x .start → hit s x ≡ false
   hit-behind spans small h =
-      let ends = spans .2 (omega arith) in
+      let ends = spans .ends (omega arith) in
       hit-none (λ i on at. elim on [ inl p ↦ omega arith | inr p ↦ omega arith ])
 
   pub hit-before : {from to : ℕ} → Spans s from to → x .start + x .size ≤ from → hit s x ≡ false

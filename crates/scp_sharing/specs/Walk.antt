@@ -1,4 +1,4 @@
--- What the private functions of the walk over the claims ask for.
+-- What the private functions of the walk over the claims ask for and promise each other.
 -- No rule stands here.
 use Prim.Native.Nat.{ℕ, _+_, _<_, _≤_}
 use mathlib.Core.Logic.{_≢_}
@@ -8,11 +8,11 @@ use Rattle.scp_fields.specs.Header.{trackSlots, revolutions, trackEntry}
 use Rattle.scp_tracks.specs.Tracks.{headerSize}
 use Rattle.scp_sharing.specs.declared.Stand.{Stand}
 
--- All that a rewrite stands on lies from the one offset up to the other, unless that is the largest number of 64 bits.
-abbrev pub Spans : Stand → ℕ → ℕ → Type 0
-Spans s from to =
-    (from ≤ s .numbers .start) × (from ≤ s .flux .start)
-    × (to < 18_446_744_073_709_551_615 → (s .numbers .start + s .numbers .size ≤ to) × (s .flux .start + s .flux .size ≤ to))
+-- No byte that a rewrite stands on lies before `from`, and none at or behind `to`, unless that is the largest number of 64 bits.
+pub record Spans (s : Stand) (from to : ℕ) : Type 0 where
+  pub numbersFrom : from ≤ s .numbers .start
+  pub fluxFrom : from ≤ s .flux .start
+  pub ends : to < 18_446_744_073_709_551_615 → (s .numbers .start + s .numbers .size ≤ to) × (s .flux .start + s .flux .size ≤ to)
 
 -- The track header at e lies inside the image.
 abbrev pub Inside : List ℕ → ℕ → Type 0

@@ -28,7 +28,8 @@ pub struct Stand {
     pub flux: Extent,
 }
 
-// All that a rewrite stands on lies from the one offset up to the other, which is the largest number where it would be more.
+// Two offsets: no byte that a rewrite stands on lies before `from`, and none at or behind `to`. `to` is the largest number where an end would
+// be more, and then says nothing.
 struct Span {
     from: usize,
     to: usize,
@@ -75,6 +76,7 @@ fn end_of(x: Extent) -> usize
     usize::MAX
 }
 
+// The lesser of two offsets.
 fn lesser(a: usize, b: usize) -> usize
     ensures { λ r. ⌜ (r ≤ a) × (r ≤ b) ⌝ }
 {
@@ -84,6 +86,7 @@ fn lesser(a: usize, b: usize) -> usize
     b
 }
 
+// The greater of two offsets.
 fn greater(a: usize, b: usize) -> usize
     ensures { λ r. ⌜ (a ≤ r) × (b ≤ r) ⌝ }
 {
@@ -93,7 +96,7 @@ fn greater(a: usize, b: usize) -> usize
     a
 }
 
-// What a rewrite stands on, from its first byte to its last.
+// From the lesser start of the two extents, empty or not, up to the greater end.
 fn span_of(s: Stand) -> Span
     ensures { λ r. ⌜ Spans s (r .from) (r .to) ⌝ }
 {
@@ -186,7 +189,7 @@ fn flux_hit(image: &[u8], s: Stand, span: Span, t: u32, k: u32, u: u32, e: u32, 
     ensures { λ r. ⌜ r ≡ anyOf (hit s) (fluxClaim (now (image .entry)) t k u e j) ⌝ }
 {
     let x = flux_extent(image, e, j);
-    if span.to < x.start {
+    if span.to <= x.start {
         return false;
     }
     if x.start + x.size <= span.from {

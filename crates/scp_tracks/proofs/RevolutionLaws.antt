@@ -61,7 +61,7 @@ module _ (b : List ℕ) (e t : ℕ) where
 
 -- ---- offsets
 
--- what ends past the room behind a header ends past the data
+-- with `room` bytes from e to the end of the data, flux reaches past the room exactly if it ends past the data
 pub room-past : (e room d n : ℕ) {end : ℕ} → e + room ≡ end → ltb room (d + n) ≡ ltb end (e + d + n)
 room-past e room d n {end} q = by (ltb room (d + n)) refl
   where

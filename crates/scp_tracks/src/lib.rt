@@ -114,20 +114,9 @@ fn record_of(header: u32, duration: u32, words: u32, distance: u32) -> Revolutio
     }
 }
 
-// The record of revolution k of the track data header at `header`, where it lies inside the image: no further test of bounds.
-fn inner_record(image: &[u8], header: u32, k: u32) -> RevolutionData
-    requires { ⌜ revolutionAt header k + 12 ≤ length (now image) ⌝ }
-    ensures { λ r. ⌜ (r ≡ dataOf (now (image .entry)) header k) × (r .offset .0 < 8_589_934_592) ⌝ }
-{
-    let at = header as usize + record_offset(k);
-    let duration = inner32(image, at);
-    let words = inner32(image, at + 4);
-    let distance = inner32(image, at + 8);
-    record_of(header, duration, words, distance)
-}
-
-// The same where it does not: past the end a byte reads 0.
-fn outer_record(image: &[u8], header: u32, k: u32) -> RevolutionData
+// The record of revolution k of the track data header at `header`. The tests of flux and of sharing, which read many records, read count and
+// distance themselves.
+pub fn revolution_data(image: &[u8], header: u32, k: u32) -> RevolutionData
     ensures { λ r. ⌜ (r ≡ dataOf (now (image .entry)) header k) × (r .offset .0 < 8_589_934_592) ⌝ }
 {
     let at = header as usize + record_offset(k);
@@ -135,17 +124,6 @@ fn outer_record(image: &[u8], header: u32, k: u32) -> RevolutionData
     let words = octets::le32(image, at + 4);
     let distance = octets::le32(image, at + 8);
     record_of(header, duration, words, distance)
-}
-
-// The record of revolution k of the track data header at `header`: every reading of a record goes by it.
-pub fn revolution_data(image: &[u8], header: u32, k: u32) -> RevolutionData
-    ensures { λ r. ⌜ (r ≡ dataOf (now (image .entry)) header k) × (r .offset .0 < 8_589_934_592) ⌝ }
-{
-    let end = header as usize + record_offset(k) + RECORD_SIZE;
-    if end <= image.len() {
-        return inner_record(image, header, k);
-    }
-    outer_record(image, header, k)
 }
 
 // A revolution of a track: absent, or present with its numbers (T-6).
@@ -200,15 +178,15 @@ fn bad_track(image: &[u8], e: usize, t: u32) -> bool
     bad_mark(image, e, t)
 }
 
-// Whether the flux of revolution k of the track data header at e ends past the data, which end so many bytes behind the header's first.
+// Whether the flux of revolution k of the track data header at e ends past the data; `room` is how many bytes there are from e to their end.
 fn flux_past(image: &[u8], e: u32, k: u32, room: u64) -> bool
     requires { ⌜ (revolutionAt e k + 12 ≤ length (now image)) × (e + room ≡ dataEnd (now image)) ⌝ }
     ensures { λ r. ⌜ r ≡ fluxPast (now (image .entry)) e k ⌝ }
 {
     let at = e as usize + record_offset(k);
-    let count = inner32(image, at + 4);
+    let words = inner32(image, at + 4);
     let distance = inner32(image, at + 8);
-    room < (distance as u64) + 2 * (count as u64)
+    room < (distance as u64) + 2 * (words as u64)
 }
 
 // Whether the flux of a revolution of the track data header at e ends past the data. Two revolutions are tested at a time.

@@ -34,7 +34,7 @@ fn main() {
 
 /// The head of a table of ratios.
 fn say_columns(what: &str) {
-    println!("{what:<66} {:>7} {:>16}", "ratio", "spread");
+    println!("{what:<70} {:>7} {:>16}", "ratio", "spread");
 }
 
 /// Times so many calls of both, and prints the ratio of the library by plain Rust.
@@ -48,7 +48,7 @@ fn beside(name: &str, rounds: usize, mut first: (usize, impl FnMut() -> u64), mu
     let mut ratios: Vec<f64> = (0..rounds).map(|_| seconds(first.0, &mut first.1) / seconds(second.0, &mut second.1)).collect();
     ratios.sort_by(f64::total_cmp);
     let at = |hundredth: usize| ratios[hundredth * (rounds - 1) / 100];
-    println!("{name:<66} {:>7.2} {:>7.2} to {:>5.2}", at(50), at(10), at(90));
+    println!("{name:<70} {:>7.2} {:>7.2} to {:>5.2}", at(50), at(10), at(90));
 }
 
 /// Seconds that so many calls take.

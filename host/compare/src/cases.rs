@@ -66,16 +66,17 @@ fn of_revolution(image: &[u8], track: u32, revolution: u32) -> [Question; 3] {
     ]
 }
 
-/// Every question about an image, all 168 tracks and one more, and all revolutions of each present track and one more; of an absent track
-/// revolution 0 and the one more. No rewrite.
+/// Every question about an image, all 168 tracks and one more, all revolutions of each present track and some that are not there, and of an
+/// absent track one that would be there and one that would not. No rewrite.
 fn every_question(image: &[u8]) -> Vec<Question> {
     let mut questions = of_image().to_vec();
     let beyond = revolutions(image);
     for track in 0..169 {
         questions.extend(of_track(track));
         let present = track < 168 && number_at(image, entry_at(track as usize)) != 0;
-        let asked = if present { (0..=beyond).collect() } else { vec![0, beyond] };
-        questions.extend(asked.into_iter().flat_map(|revolution| of_revolution(image, track, revolution)));
+        let asked = if present { 0..beyond } else { 0..1 };
+        let absent = if present { &[beyond, beyond + 1, 255, 256, u32::MAX][..] } else { &[beyond + 1] };
+        questions.extend(asked.chain(absent.iter().copied()).flat_map(|revolution| of_revolution(image, track, revolution)));
     }
     questions
 }

@@ -131,7 +131,7 @@ fn overlap(parts: &Parts, placed: &mut Placed, random: &mut Random) {
     }
 }
 
-/// A track and a revolution that are there, now and then the last.
+/// A track and a revolution that are there, now and then its last.
 fn some_revolution(parts: &Parts, random: &mut Random) -> Option<(usize, usize)> {
     if parts.tracks.is_empty() {
         return None;
@@ -309,15 +309,14 @@ fn spoil_track(parts: &Parts, placed: &mut Placed, random: &mut Random) {
     let slot = entry_at(parts.tracks[track].number.into());
     let end = placed.image.len() as u32;
     let near = random.below(50) as u32;
-    // where a header just fits before the end, and a byte later
-    let last = end.saturating_sub(duration_at(0, parts.revolutions.into()) as u32);
-    let values = [header as u32 + 1, header as u32 - 1, last, last + 1, end.saturating_sub(near), end + near, u32::MAX - near, 687, 688];
+    let values = [header as u32 + 1, header as u32 - 1, end.saturating_sub(near), end + near, u32::MAX - near, 687, 688];
     match random.below(4) {
         0 => {
-            // a header that starts in the table's last bytes
-            let low = random.between(676, 687);
-            set(&mut placed.image, low, &[b'T', b'R', b'K', parts.tracks[track].number]);
-            set(&mut placed.image, slot, &(low as u32).to_le_bytes());
+            // a header that starts in the table's last bytes, the last one that ends with the data, or one a byte later
+            let last = data_end(parts, placed).saturating_sub(duration_at(0, parts.revolutions.into()));
+            let place = random.pick(&[random.between(676, 687), last, last + 1]);
+            set(&mut placed.image, place, &[b'T', b'R', b'K', parts.tracks[track].number]);
+            set(&mut placed.image, slot, &(place as u32).to_le_bytes());
         }
         3 => set(&mut placed.image, slot, &random.pick(&values).to_le_bytes()),
         1 => spoil_byte(&mut placed.image, header, 3, random),

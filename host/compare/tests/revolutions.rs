@@ -111,7 +111,7 @@ fn what_refuses_the_last_of_255_revolutions() {
         ("the last count 2^31", 4_262, count(1 << 31), [11; 5]),
         ("the last count the largest", 4_262, count(u32::MAX), [11; 5]),
         ("the last distance the largest", 4_262, (last + 8, u32::MAX), [11; 5]),
-        ("the last distance 2^32 less that of the header", 4_262, (last + 8, 688_u32.wrapping_neg()), [11; 5]),
+        ("the last flux at 2^32", 4_262, (last + 8, 688_u32.wrapping_neg()), [11; 5]),
         ("no flux in the last", 4_262, count(0), [0, 0, 0, 17, 14]),
         ("the last flux is the first", 4_262, (last + 8, 3_064), [0, 18, 0, 18, 14]),
         ("the first flux on the duration of the last", 4_262, (first + 8, 3_052), [0, 18, 0, 18, 14]),
@@ -125,8 +125,8 @@ fn what_refuses_the_last_of_255_revolutions() {
     }
 }
 
-/// Questions about the first, the middle and the last revolution on three tracks of an image, the first, one in the middle and the last, and a
-/// rewrite of one of them on each; and a revolution that is not there.
+/// Asks both about the first, the middle and the last revolution of the first, a middle and the last track, rewrites one on each, and asks for
+/// one that is not there.
 fn agree_on_some(image: &[u8], last_track: u32) {
     let (tracks, asked) = ([0, last_track / 2, last_track], first_middle_last(image));
     let mut questions = some_questions(image, &tracks, &asked);

@@ -98,9 +98,10 @@ impl<'a> Layout<'a> {
         (0..).zip(entries).filter(|&(_, entry)| entry != 0)
     }
 
-    /// The revolutions of each track.
+    /// The revolutions of each track; on a read/write image at most one, whatever byte 0x05 says.
     pub fn revolutions(self) -> u32 {
-        self.header().map_or(0, |header| header.revolutions.into())
+        let most = |header: &Header| if header.is_read_write() { 1 } else { u8::MAX };
+        self.header().map_or(0, |header| header.revolutions.min(most(&header)).into())
     }
 
     /// How many bytes each track data header has.

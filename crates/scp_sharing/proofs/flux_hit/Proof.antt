@@ -14,9 +14,8 @@ returns : tie.Need-returns
 returns c =
     let at-flux = c .before .before .before in
     let start = at-flux .before .before in
-    let s = start .args .s in
-    let missed = hit-behind s (at-flux .flux-extent .result) (start .pre .1) (search needs) (c .if1 .taken) in
-    sym (flux-missed (hit s) _ _ _ _ _ _ (ap (hit s) (sym (at-flux .flux-extent .ensures .0)) ∙ missed))
+    let extent = at-flux .flux-extent .ensures in
+    flux-missed _ _ _ _ _ _ _ (extent .0) (hit-behind (start .args .s) _ (start .pre .1) (search needs) (c .if1 .taken))
 
 add-if2 : tie.Need-add-if2
 add-if2 c = search needs
@@ -25,9 +24,8 @@ returns-2 : tie.Need-returns-2
 returns-2 c =
     let at-flux = c .before .before .before .before .before .before in
     let start = at-flux .before .before in
-    let s = start .args .s in
-    let missed = hit-before s (at-flux .flux-extent .result) (start .pre .1) (c .if2 .taken) in
-    sym (flux-missed (hit s) _ _ _ _ _ _ (ap (hit s) (sym (at-flux .flux-extent .ensures .0)) ∙ missed))
+    let extent = at-flux .flux-extent .ensures in
+    flux-missed _ _ _ _ _ _ _ (extent .0) (hit-before (start .args .s) _ (start .pre .1) (c .if2 .taken))
 
 returns-3 : tie.Need-returns-3
 returns-3 c = sym (flux-own _ _ _ _ _ _ _ (c .if3 .taken))

@@ -21,14 +21,15 @@ returns c =
     let at-flux = c .before in
     let at-numbers = at-flux .before in
     let from = at-numbers .before .lesser .ensures in
-    let most = c .greater .ensures in (
-      from .0,
-      from .1,
-      λ below.
+    let most = c .greater .ensures in
+    record {
+      numbersFrom = from .0;
+      fluxFrom = from .1;
+      ends = λ below.
           let numbers = at-numbers .end-of .ensures (omega arith) in
           let flux = at-flux .end-of2 .ensures (omega arith) in
-          (omega arith, omega arith),
-    )
+          (omega arith, omega arith);
+    }
 
 pub span-of-spec : {M : Type 1} → statement M
 span-of-spec =

@@ -1,4 +1,4 @@
--- The flux ends past the room behind its header exactly if it ends past the data.
+-- The flux reaches past the room from the header's first byte exactly if it ends past the data.
 use mathlib.Core.Path.{_∙_}
 use Prim.Native.Nat.{_*_}
 use Rattle.scp_fields.specs.Header.{dataEnd}

@@ -80,7 +80,7 @@ impl Search<'_> {
             self.note(Reason::Width, format!("byte 0x09 is {width}, not 0 or 16"));
         }
         if revolutions == 0 {
-            self.note(Reason::Revolutions, format!("byte 0x05 is {revolutions}, not 1 to 255"));
+            self.note(Reason::Revolutions, "byte 0x05 is 0, not 1 to 255".to_string());
         } else if header.is_read_write() && revolutions > 1 {
             self.note(Reason::Revolutions, format!("byte 0x05 is {revolutions}, but a read/write image (FLAGS bit 4) has 1"));
         }

@@ -189,13 +189,16 @@ fn a_time_that_no_words_express_is_told_with_its_line() {
 }
 
 #[test]
-fn no_revolutions_and_too_many_on_a_read_write_image_make_no_other_faults() {
+fn a_wrong_number_of_revolutions_makes_no_other_faults() {
     let bench = Bench::new();
-    let last = "    3   1          2      0.000050          1          1             0\n";
+    let (none, several) = ("not 1 to 255", "but a read/write image (FLAGS bit 4) has 1");
+    let first = "    3   0          1      0.000025          1          1             0\n";
     for (flags, revolutions, due, shown_last) in [
-        (0x00, 0, "not 1 to 255", "open ticks\n"),
-        (0x10, 0, "not 1 to 255", "open ticks\n"),
-        (0x10, 2, "but a read/write image (FLAGS bit 4) has 1", last),
+        (0x00, 0, none, "open ticks\n"),
+        (0x10, 0, none, "open ticks\n"),
+        (0x10, 2, several, first),
+        (0x10, 200, several, first),
+        (0x10, 255, several, first),
     ] {
         bench.put("b.scp", &changed(changed(three_tracks(), 8, &[flags]), 5, &[revolutions]));
         let due = format!("b.scp: refused 4 Revolutions: byte 0x05 is {revolutions}, {due}\n");

@@ -4,8 +4,8 @@ use Prim.Native.Nat.{ℕ, _+_}
 use Rattle.octets.specs.Numbers.{le32At}
 use Rattle.scp_tracks.proofs.RevolutionLaws.{record-same}
 use borrow.Author.Needs.{needs}
-use Rattle.scp_tracks.proofs.inner_record.Statement.{statement}
-use Rattle.scp_tracks.proofs.inner_record.Tie as tie
+use Rattle.scp_tracks.proofs.revolution_data.Statement.{statement}
+use Rattle.scp_tracks.proofs.revolution_data.Tie as tie
 
 record-offset-requires : tie.Need-record-offset-requires
 record-offset-requires c κs = search needs
@@ -13,20 +13,20 @@ record-offset-requires c κs = search needs
 add-at : tie.Need-add-at
 add-at c = search needs
 
-inner32-requires : tie.Need-inner32-requires
-inner32-requires c κs = search needs
+le32-requires : tie.Need-le32-requires
+le32-requires c κs = search needs
 
-add-inner32 : tie.Need-add-inner32
-add-inner32 c = search needs
+add-le32 : tie.Need-add-le32
+add-le32 c = search needs
 
-inner32-requires-2 : tie.Need-inner32-requires-2
-inner32-requires-2 c κs = search needs
+le32-requires-2 : tie.Need-le32-requires-2
+le32-requires-2 c κs = search needs
 
-add-inner32-2 : tie.Need-add-inner32-2
-add-inner32-2 c = search needs
+add-le32-2 : tie.Need-add-le32-2
+add-le32-2 c = search needs
 
-inner32-requires-3 : tie.Need-inner32-requires-3
-inner32-requires-3 c κs = search needs
+le32-requires-3 : tie.Need-le32-requires-3
+le32-requires-3 c κs = search needs
 
 record-of-requires : tie.Need-record-of-requires
 record-of-requires c κs = search needs
@@ -41,21 +41,21 @@ returns c =
     let b = start .args .image .now in
     let e = start .args .header in
     let record-at = at-record .record-offset .ensures in
-    let duration = at-duration .inner32 .ensures ∙ ap (λ (x : ℕ). le32At b (e + x)) record-at in
-    let words = at-words .inner322 .ensures ∙ ap (λ (x : ℕ). le32At b (e + x + 4)) record-at in
-    let distance = at-distance .inner323 .ensures ∙ ap (λ (x : ℕ). le32At b (e + x + 8)) record-at in
+    let duration = at-duration .le32 .ensures ∙ ap (λ (x : ℕ). le32At b (e + x)) record-at in
+    let words = at-words .le322 .ensures ∙ ap (λ (x : ℕ). le32At b (e + x + 4)) record-at in
+    let distance = at-distance .le323 .ensures ∙ ap (λ (x : ℕ). le32At b (e + x + 8)) record-at in
     (c .record-of .ensures .0 ∙ record-same e duration words distance, c .record-of .ensures .1)
 
-pub inner-record-spec : {M : Type 1} → statement M
-inner-record-spec =
+pub revolution-data-spec : {M : Type 1} → statement M
+revolution-data-spec =
     tie.close
     (tie.spec
     record-offset-requires
     add-at
-    inner32-requires
-    add-inner32
-    inner32-requires-2
-    add-inner32-2
-    inner32-requires-3
+    le32-requires
+    add-le32
+    le32-requires-2
+    add-le32-2
+    le32-requires-3
     record-of-requires
     returns)
