@@ -314,7 +314,8 @@ fn spoil_track(parts: &Parts, placed: &mut Placed, random: &mut Random) {
         0 => {
             // a header that starts in the table's last bytes, the last one that ends with the data, or one a byte later
             let last = data_end(parts, placed).saturating_sub(duration_at(0, parts.revolutions.into()));
-            let place = random.pick(&[random.between(676, 687), last, last + 1]);
+            let low = random.between(676, 687);
+            let place = random.pick(&[low, last, last + 1]);
             set(&mut placed.image, place, &[b'T', b'R', b'K', parts.tracks[track].number]);
             set(&mut placed.image, slot, &(place as u32).to_le_bytes());
         }
