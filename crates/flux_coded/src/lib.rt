@@ -2,7 +2,8 @@
 ghost use mathlib.Core.Path.{_≡_};
 ghost use lib.ListN.{length};
 ghost use Rattle.flux.specs.Answers.{stepAt, reading, writing, bufferAfter};
-ghost use Rattle.scp_boundary.specs.Boundary.{codeOf, within, outAfter, stepNumbers, both, valuesOf};
+ghost use Rattle.boundary.specs.Boundary.{codeOf, within, outAfter};
+ghost use Rattle.scp_boundary.specs.Boundary.{stepNumbers, both, valuesOf};
 use flux::Cursor;
 use flux::Filled;
 use flux::Step;
@@ -20,13 +21,13 @@ pub fn step(flux: &[u8], word: u64, out: &mut [u64]) -> u64
     match found {
         Step::Interval { ticks, open, next } => {
             let row = [ticks, open, next.word as u64];
-            scp_boundary::give(out, &row)
+            boundary::give(out, &row)
         }
         Step::Open { open, next } => {
             let row = [0, open, next.word as u64];
-            scp_boundary::give(out, &row)
+            boundary::give(out, &row)
         }
-        Step::Refused(r) => scp_boundary::code(r),
+        Step::Refused(r) => boundary::code(r),
     }
 }
 
@@ -36,14 +37,14 @@ pub fn intervals(flux: &[u8], times: &mut [u64], out: &mut [u64]) -> u64
     ensures { λ _. ⌜ now (times .exit) ≡ bufferAfter (now (times .entry)) (both (length (now (out .entry))) (reading (now (flux .entry)) (length (now (times .entry))))) ⌝ }
     ensures { λ _. ⌜ now (out .exit) ≡ outAfter (now (out .entry)) (valuesOf (both (length (now (out .entry))) (reading (now (flux .entry)) (length (now (times .entry)))))) ⌝ }
 {
-    let places = scp_boundary::lent(times.len(), out.len(), 2);
+    let places = boundary::lent(times.len(), out.len(), 2);
     let found = flux::intervals(flux, &mut times[..places]);
     match found {
         Filled::Places { filled, open } => {
             let row = [filled as u64, open];
-            scp_boundary::give(out, &row)
+            boundary::give(out, &row)
         }
-        Filled::Refused(r) => scp_boundary::code(r),
+        Filled::Refused(r) => boundary::code(r),
     }
 }
 
@@ -53,13 +54,13 @@ pub fn words(times: &[u64], words: &mut [u8], out: &mut [u64]) -> u64
     ensures { λ _. ⌜ now (words .exit) ≡ bufferAfter (now (words .entry)) (both (length (now (out .entry))) (writing (now (times .entry)) (length (now (words .entry))))) ⌝ }
     ensures { λ _. ⌜ now (out .exit) ≡ outAfter (now (out .entry)) (valuesOf (both (length (now (out .entry))) (writing (now (times .entry)) (length (now (words .entry)))))) ⌝ }
 {
-    let places = scp_boundary::lent(words.len(), out.len(), 1);
+    let places = boundary::lent(words.len(), out.len(), 1);
     let found = flux::words(times, &mut words[..places]);
     match found {
         Written::Bytes(n) => {
             let row = [n as u64];
-            scp_boundary::give(out, &row)
+            boundary::give(out, &row)
         }
-        Written::Refused(r) => scp_boundary::code(r),
+        Written::Refused(r) => boundary::code(r),
     }
 }

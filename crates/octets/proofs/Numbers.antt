@@ -188,6 +188,21 @@ be-octets v h zero = omega arith
 be-octets v h (suc zero) = omega arith
 be-octets v h (suc (suc i)) = omega arith
 
+-- A part of bytes has bytes.
+pub drop-octets : (n : ℕ) (b : List ℕ) → Octets b → Octets (drop n b)
+drop-octets zero b h = h
+drop-octets (suc n) [] h = h
+drop-octets (suc n) (x ∷ b) h = drop-octets n b (λ i. h (suc i))
+
+first-octet : (x : ℕ) (b : List ℕ) → x < 256 → Octets b → (i : ℕ) → byteAt (x ∷ b) i < 256
+first-octet x b h o zero = h
+first-octet x b h o (suc i) = o i
+
+pub take-octets : (n : ℕ) (b : List ℕ) → Octets b → Octets (take n b)
+take-octets zero b h = λ i. omega arith
+take-octets (suc n) [] h = h
+take-octets (suc n) (x ∷ b) h = first-octet x (take n b) (h 0) (take-octets n b (λ j. h (suc j)))
+
 set-octets : (b : List ℕ) (i v : ℕ) → Octets b → v < 256 → Octets (set b i v)
 set-octets [] i v h p j = h j
 set-octets (x ∷ b) zero v h p zero = p

@@ -1,7 +1,7 @@
 -- What searches and refusals say where they find something and where they do not: searches by induction on their number of indices,
 -- refusals by the cases of their test.
 use Prim.Native.Nat.{ℕ, zero, suc, _+_, _<_, _≤_}
-use mathlib.Core.Path.{_≡_, refl, sym, _∙_}
+use mathlib.Core.Path.{_≡_, refl, sym, ap, _∙_}
 use mathlib.Core.Logic.{_↔_, _⊎_, inl, inr}
 use mathlib.Core.Bool.{Bool, true, false, not, _||_, true≢false}
 use native.Mathlib.Decide.{ℕ-discrete}
@@ -73,6 +73,10 @@ same-from p q i zero h = refl
 same-from p q i (suc n) h = cc (each-first i n h, same-from p q (i + 1) n (each-rest i n h))
 
 -- ---- refusals
+
+-- a refusal with a number is a refusal
+pub is-refusal : {f : Refusal} (n : ℕ) → f ≡ refusal (suc n) 0 → f .number ≡ 0 → ⊥
+is-refusal n e z = let q : suc n ≡ 0 = ap (λ (x : Refusal). x .number) (sym e) ∙ z in omega arith
 
 pub not-refused : (t : Bool) (n p : ℕ) (rest : Refusal) → refuseIf t (refusal (suc n) p) rest .number ≡ 0
     → (t ≡ false) × (rest .number ≡ 0)

@@ -2,7 +2,8 @@
 ghost use mathlib.Core.Path.{_≡_};
 ghost use Rattle.refusals.specs.Refusals.{none, refusal};
 
-// The table of refusals, by number (R-1 to R-18). Each number has one meaning in all crates.
+// The table of refusals, by number (R-1 to R-18, R-30 to R-35). Each number has one meaning: 13 and 14 say that what was
+// asked for is not there, the track (of a DSK image also the side), and the revolution or the sector.
 pub const SIZE: u32 = 1;
 
 pub const SIGN: u32 = 2;
@@ -31,6 +32,9 @@ pub const ABSENT: u32 = 13;
 
 pub const REVOLUTION: u32 = 14;
 
+// The same of a DSK image.
+pub const NO_SECTOR: u32 = REVOLUTION;
+
 pub const PLACES: u32 = 15;
 
 pub const TIME: u32 = 16;
@@ -38,6 +42,18 @@ pub const TIME: u32 = 16;
 pub const WORDS: u32 = 17;
 
 pub const SHARED: u32 = 18;
+
+pub const DSK_SIGN: u32 = 30;
+
+pub const DSK_GEOMETRY: u32 = 31;
+
+pub const DSK_LENGTH: u32 = 32;
+
+pub const DSK_BLOCK: u32 = 33;
+
+pub const DSK_SECTORS: u32 = 34;
+
+pub const DSK_DATA: u32 = 35;
 
 // A number of the table and a position; number 0 is no refusal (RO-1).
 pub struct Refusal {

@@ -13,8 +13,9 @@ use Rattle.flux.specs.Coding.{wordsOf, bytesOf, badFluxSize}
 use Rattle.flux.specs.Reading.{intervals, openTime}
 use Rattle.flux.specs.Writing.{firstInexpressible, wordsFor}
 use Rattle.flux.specs.Answers.{Answer, refused, gives, Filling, refuses, fills, answerOf, bufferAfter, inPlaces, reading, writing}
-use Rattle.scp_boundary.specs.Boundary.{Given, within, both, valuesOf}
-use Rattle.scp_boundary.specs.Boundary as boundary
+use Rattle.boundary.specs.Boundary.{Given, within}
+use Rattle.boundary.specs.Boundary as boundary
+use Rattle.scp_boundary.specs.Boundary.{both, valuesOf}
 
 -- ---- what is put to `out`
 

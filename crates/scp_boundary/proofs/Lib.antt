@@ -1,5 +1,2 @@
-pub mod ExactCodes
 pub mod LentPlaces
-pub mod GivenValues
-pub mod CodeAndBuffer
 pub mod UncutCodes

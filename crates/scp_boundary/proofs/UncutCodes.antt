@@ -1,18 +1,16 @@
 -- No refusal of a call on an image is cut: each number is below 256, and each position 0, the number of a string or the index of a track,
 -- below 256 too. Both limits are kept by each test of a chain, by each index of a search, and by each question.
-use Prim.Native.Nat.{ℕ, zero, suc, _+_, _<_}
+use Prim.Native.Nat.{ℕ, _<_}
 use mathlib.Core.List.{List, []}
-use mathlib.Core.Bool.{Bool, true, false, not, cond}
+use mathlib.Core.Bool.{Bool, true, false, cond}
 use native.Mathlib.Omega.{arith}
 use lib.Dec.{eqb}
 use Rattle.refusals.specs.declared.Refusal.{Refusal}
-use Rattle.refusals.specs.Refusals.{none, refusal, passes, refuseIf, firstOf}
-use Rattle.refusals.specs.Search.{firstFrom}
+use Rattle.refusals.specs.Refusals.{none, refusal, passes}
 use Rattle.scp_fields.specs.Header.{trackSlots, hasFooter, trackEntry}
 use Rattle.scp_fields.specs.Footer.{stringSlots}
 use Rattle.scp_footer.specs.Footer.{stringFaultAt, stringFault, footerFault}
 use Rattle.scp_header.specs.HeaderFault.{headFault}
-use Rattle.refusals.proofs.Finding.{Each}
 use Rattle.scp_tracks.specs.Tracks.{durationAt, trackFaultAt, trackFault, tracksFault}
 use Rattle.scp_open.specs.Opening.{openFault}
 use Rattle.scp_speed.specs.Speeds.{longest, speedsOf}
@@ -25,39 +23,8 @@ use Rattle.scp.specs.Answers.{Answer, numbers, unless, headerAnswer, footerValu
 use Rattle.scp_sharing.specs.RewriteFault.{wordsThenShared, rewriteFault}
 use Rattle.scp_book.specs.Book.{Question, validate, header, footer, track, revolution, flux, speed, trackSpeed, ask, rewrite, asked, answer}
 use Rattle.scp_boundary.specs.Theorems.{Whole, Uncut}
-use Rattle.scp_boundary.proofs.ExactCodes.{exact}
-
--- ---- chains and searches
-
--- within the limits of a code
-abbrev Small : Refusal → Type 0
-Small f = (f .number < 256) × (f .position < 72_057_594_037_927_936)
-
-small-none : Small none
-small-none = (omega arith, omega arith)
-
-small-either : (t : Bool) (f rest : Refusal) → Small f → Small rest → Small (refuseIf t f rest)
-unfolding refuseIf
-small-either true f rest h k = h
-small-either false f rest h k = k
-
-small-first : (f rest : Refusal) → Small f → Small rest → Small (firstOf f rest)
-unfolding firstOf
-small-first f rest h k = small-either (not (passes f)) f rest h k
-
--- a refusal at string or track p, and one of position 0
-small-at : (t : Bool) (rest : Refusal) (n p : ℕ) → n < 256 → p < 256 → Small rest → Small (refuseIf t (refusal n p) rest)
-small-at t rest n p h q k = small-either t (refusal n p) rest (omega arith, omega arith) k
-
-small-if : (t : Bool) (rest : Refusal) (n : ℕ) → n < 256 → Small rest → Small (refuseIf t (refusal n 0) rest)
-small-if t rest n h k = small-at t rest n 0 h (omega arith) k
-
-small-from : (f : ℕ → Refusal) (i n : ℕ) → Each (λ j. Small (f j)) i n → Small (firstFrom f i n)
-unfolding firstFrom
-small-from f i zero h = small-none
-small-from f i (suc n) h =
-    small-first (f i) (firstFrom f (i + 1) n) (h i (omega arith) (omega arith))
-    (small-from f (i + 1) n (λ j a z. h j (omega arith) (omega arith)))
+use Rattle.boundary.proofs.ExactCodes.{exact}
+use Rattle.boundary.proofs.SmallCodes.{Small, small-none, small-first, small-at, small-if, small-from}
 
 -- ---- what refuses an image
 
@@ -88,9 +55,9 @@ module _ (b : List ℕ) where
   unfolding trackFaultAt
   track-small t h =
       small-if _ _ 0 (omega arith)
-      (small-at _ _ 9 t (omega arith) h
-      (small-at _ _ 10 t (omega arith) h
-      (small-at _ _ 11 t (omega arith) h
+      (small-at _ _ 9 t (omega arith) (omega arith)
+      (small-at _ _ 10 t (omega arith) (omega arith)
+      (small-at _ _ 11 t (omega arith) (omega arith)
       small-none)))
 
   open-small : Small (openFault b)

@@ -1,15 +1,10 @@
 -- What the definitions of the boundary are proved to mean. The proofs stand in proofs/.
-use Prim.Native.Nat.{ℕ, _+_, _*_, _<_}
+use Prim.Native.Nat.{ℕ, _+_, _*_}
 use mathlib.Core.Path.{_≡_}
 use mathlib.Core.List.{List}
 use Rattle.scp.specs.Answers.{Answer, refused, none, numbers, footer, speeds, bytes}
 use Rattle.scp_book.specs.Book.{Call, answer}
-use Rattle.scp_boundary.specs.Boundary.{packed}
-
--- C-2: a number below 256 and a position below 2^56 are packed as they are.
-abbrev pub Exact : Type 0
-Exact =
-    (number position : ℕ) → number < 256 → position < 72_057_594_037_927_936 → packed number position ≡ number + 256 * position
+use Rattle.boundary.specs.Boundary.{packed}
 
 -- C-2: if it is a refusal, its code is its number + 256 x its position.
 abbrev pub Whole : Answer → Type 0

@@ -7,7 +7,8 @@ ghost use Rattle.scp.specs.Answers.{Answer, validateAnswer, headerAnswer, foote
 ghost use Rattle.scp_rewrite.specs.Answering.{rewriteAnswer};
 ghost use Rattle.scp_rewrite.specs.Rewriting.{afterRewrite};
 ghost use Rattle.sequence.specs.Replaying.{replayAnswer, Replays};
-ghost use Rattle.scp_boundary.specs.Boundary.{codeOf, within, outAfter, numbersOf, floatsOf, stepNumbers, both, valuesOf};
+ghost use Rattle.boundary.specs.Boundary.{codeOf, within, outAfter};
+ghost use Rattle.scp_boundary.specs.Boundary.{numbersOf, floatsOf, stepNumbers, both, valuesOf};
 use scp_rewrite::Rewritten;
 use sequence::Replayed;
 
@@ -134,7 +135,7 @@ pub extern "C" fn scp_rewrite(
     let found = scp_rewrite::rewrite(image, track, revolution, duration, words);
     match found {
         Rewritten::Done => 0,
-        Rewritten::Refused(r) => scp_boundary::code(r),
+        Rewritten::Refused(r) => boundary::code(r),
     }
 }
 
@@ -152,6 +153,6 @@ pub extern "C" fn scp_replay(
     let found = sequence::replay(image, calls, words, answers);
     match found {
         Replayed::Done => 0,
-        Replayed::Refused(r) => scp_boundary::code(r),
+        Replayed::Refused(r) => boundary::code(r),
     }
 }

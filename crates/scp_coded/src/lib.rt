@@ -2,7 +2,8 @@
 ghost use mathlib.Core.Path.{_≡_};
 ghost use lib.ListN.{length};
 ghost use Rattle.scp.specs.Answers.{validateAnswer, headerAnswer, footerAnswer, trackAnswer, revolutionAnswer, fluxAnswer, speedAnswer, trackSpeedAnswer};
-ghost use Rattle.scp_boundary.specs.Boundary.{codeOf, within, outAfter, numbersOf, floatsOf};
+ghost use Rattle.boundary.specs.Boundary.{codeOf, within, outAfter};
+ghost use Rattle.scp_boundary.specs.Boundary.{numbersOf, floatsOf};
 use scp::FooterAnswer;
 use scp::HeaderAnswer;
 use scp::SpeedAnswer;
@@ -18,7 +19,7 @@ pub fn validate(image: &[u8]) -> u64
     let found = scp::validate(image);
     match found {
         Validated::Valid => 0,
-        Validated::Refused(r) => scp_boundary::code(r),
+        Validated::Refused(r) => boundary::code(r),
     }
 }
 
@@ -31,9 +32,9 @@ pub fn header(image: &[u8], out: &mut [u64]) -> u64
     match found {
         HeaderAnswer::Found(h) => {
             let row = scp_values::header_numbers(h);
-            scp_boundary::give(out, &row)
+            boundary::give(out, &row)
         }
-        HeaderAnswer::Refused(r) => scp_boundary::code(r),
+        HeaderAnswer::Refused(r) => boundary::code(r),
     }
 }
 
@@ -46,13 +47,13 @@ pub fn footer(image: &[u8], out: &mut [u64]) -> u64
     match found {
         FooterAnswer::Found(f) => {
             let row = scp_values::footer_numbers(f);
-            scp_boundary::give(out, &row)
+            boundary::give(out, &row)
         }
         FooterAnswer::None => {
             let row = [0u64; 13];
-            scp_boundary::give(out, &row)
+            boundary::give(out, &row)
         }
-        FooterAnswer::Refused(r) => scp_boundary::code(r),
+        FooterAnswer::Refused(r) => boundary::code(r),
     }
 }
 
@@ -65,9 +66,9 @@ pub fn track(image: &[u8], track: u32, out: &mut [u64]) -> u64
     match found {
         TrackAnswer::Found(d) => {
             let row = scp_values::track_numbers(d);
-            scp_boundary::give(out, &row)
+            boundary::give(out, &row)
         }
-        TrackAnswer::Refused(r) => scp_boundary::code(r),
+        TrackAnswer::Refused(r) => boundary::code(r),
     }
 }
 
@@ -80,9 +81,9 @@ pub fn revolution(image: &[u8], track: u32, revolution: u32, out: &mut [u64]) ->
     match found {
         RevolutionAnswer::Found(d) => {
             let row = scp_values::revolution_numbers(d);
-            scp_boundary::give(out, &row)
+            boundary::give(out, &row)
         }
-        RevolutionAnswer::Refused(r) => scp_boundary::code(r),
+        RevolutionAnswer::Refused(r) => boundary::code(r),
     }
 }
 
@@ -93,8 +94,8 @@ pub fn flux(image: &[u8], track: u32, revolution: u32, out: &mut [u8]) -> u64
 {
     let answer = scp::revolution(image, track, revolution);
     match answer {
-        RevolutionAnswer::Found(d) => scp_boundary::give_bytes(out, scp_values::flux_of(image, d)),
-        RevolutionAnswer::Refused(r) => scp_boundary::code(r),
+        RevolutionAnswer::Found(d) => boundary::give_bytes(out, scp_values::flux_of(image, d)),
+        RevolutionAnswer::Refused(r) => boundary::code(r),
     }
 }
 
@@ -108,7 +109,7 @@ pub fn speed(image: &[u8], track: u32, revolution: u32, out: &mut [f64]) -> u64
     let found = scp::speed(image, track, revolution);
     match found {
         SpeedAnswer::Found(s) => scp_boundary::give_speed(out, s),
-        SpeedAnswer::Refused(r) => scp_boundary::code(r),
+        SpeedAnswer::Refused(r) => boundary::code(r),
     }
 }
 
@@ -121,13 +122,13 @@ pub fn track_speed(image: &[u8], track: u32, out: &mut [f64]) -> u64
     match found {
         TrackSpeedAnswer::Found(s) => {
             let row = [scp_boundary::whole(1), s.slowest, s.fastest];
-            scp_boundary::give_floats(out, &row)
+            boundary::give_floats(out, &row)
         }
         TrackSpeedAnswer::None => {
             let zero = scp_boundary::whole(0);
             let row = [zero, zero, zero];
-            scp_boundary::give_floats(out, &row)
+            boundary::give_floats(out, &row)
         }
-        TrackSpeedAnswer::Refused(r) => scp_boundary::code(r),
+        TrackSpeedAnswer::Refused(r) => boundary::code(r),
     }
 }

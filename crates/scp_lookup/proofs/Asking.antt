@@ -1,9 +1,8 @@
 -- The chain of refusals of a call: what an opened image says of it, and what comes after the track.
-use Prim.Native.Nat.{ℕ, suc, _<_, _≤_}
+use Prim.Native.Nat.{ℕ, _<_, _≤_}
 use mathlib.Core.Path.{_≡_, refl, sym, ap, _∙_}
 use mathlib.Core.List.{List}
 use mathlib.Core.Bool.{Bool, true, false, cond}
-use native.Mathlib.Omega.{arith}
 use lib.ListN.{length, getD}
 use lib.Dec.{eqb, leb}
 use borrow.Author.Tests.{eq-eqb, ne-eqb, eqb-false, le-leb, lt-leb, leb-false}
@@ -94,7 +93,3 @@ module _ (b : List ℕ) (t : ℕ) where
 
   pub track-passes : TrackThere → trackQuestion b t .number ≡ 0
   track-passes h = ap (λ (x : Refusal). x .number) (sym (then-rest refusals.none h))
-
--- a refusal with a number is a refusal
-pub is-refusal : {f : Refusal} (n : ℕ) → f ≡ refusal (suc n) 0 → f .number ≡ 0 → ⊥
-is-refusal n e z = let q : suc n ≡ 0 = ap (λ (x : Refusal). x .number) (sym e) ∙ z in omega arith

@@ -10,7 +10,7 @@ use borrow.Author.Tests.{eq-eqb, ne-eqb, eqb-true, eqb-false, lt-leb, leb-false,
 use Rattle.refusals.specs.declared.Refusal.{Refusal}
 use Rattle.refusals.specs.Refusals.{none, passes, refuseIf, firstOf}
 use Rattle.scp_fields.specs.Header.{revolutions, trackEntry}
-use Rattle.refusals.proofs.Finding.{not-refused}
+use Rattle.refusals.proofs.Finding.{is-refusal, not-refused}
 use Rattle.scp_tracks.specs.Revolutions.{dataOf, revolutionOf, ofPresence, revolutionFault}
 use Rattle.scp_tracks.specs.declared.Revolution.the-variants.{Absent, Present}
 use Rattle.scp_tracks.specs.declared.RevolutionData.{RevolutionData}
@@ -19,7 +19,7 @@ use Rattle.scp_lookup.specs.Questions.{trackThen, trackQuestion, revolut
 use Rattle.scp_lookup.specs.Lookups.{foundTrack, foundRevolution}
 use Rattle.scp_lookup.specs.declared.Entry.the-variants as entry
 use Rattle.scp_lookup.specs.declared.RevolutionAnswer.the-variants as revolution-answer
-use Rattle.scp_lookup.proofs.Asking.{TrackThere, then-rest, there, track-passes, is-refusal}
+use Rattle.scp_lookup.proofs.Asking.{TrackThere, then-rest, there, track-passes}
 
 -- ---- a track
 

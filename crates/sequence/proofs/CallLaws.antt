@@ -8,7 +8,8 @@ use lib.ListN.{length, take, drop, getD, replicate, length-append}
 use lib.Seq.{length-take-le}
 use lib.Dec.{eqb}
 use borrow.Author.Tests.{eq-eqb, ne-eqb}
-use Rattle.octets.specs.Numbers.{byteAt, Octets, unsigned64}
+use Rattle.octets.specs.Numbers.{Octets, unsigned64}
+use Rattle.octets.proofs.Numbers.{drop-octets, take-octets}
 use Rattle.octets.specs.Sums.{byteSum}
 use lib.Ieee.{binary64, toBits}
 use Rattle.scp.specs.declared.FooterData.{FooterData}
@@ -51,21 +52,6 @@ fit-by false c d h k = k
 fits-of : (kind t k d : ℕ) (ws : List ℕ) → d < 4_294_967_296 → Octets ws → Fits (callOf kind t k d ws)
 unfolding callOf
 fits-of kind t k d ws h o = fit-by (eqb kind 8) (book.rewrite t k d ws) _ (h, o) tt
-
--- a part of bytes is bytes
-drop-octets : (n : ℕ) (b : List ℕ) → Octets b → Octets (drop n b)
-drop-octets zero b h = h
-drop-octets (suc n) [] h = h
-drop-octets (suc n) (x ∷ b) h = drop-octets n b (λ i. h (suc i))
-
-first-octet : (x : ℕ) (b : List ℕ) → x < 256 → Octets b → (i : ℕ) → byteAt (x ∷ b) i < 256
-first-octet x b h o zero = h
-first-octet x b h o (suc i) = o i
-
-take-octets : (n : ℕ) (b : List ℕ) → Octets b → Octets (take n b)
-take-octets zero b h = λ i. omega arith
-take-octets (suc n) [] h = h
-take-octets (suc n) (x ∷ b) h = first-octet x (take n b) (h 0) (take-octets n b (λ j. h (suc j)))
 
 call-fits : (calls words : List ℕ) (i : ℕ) → Octets words → Fits (callAt calls words i)
 unfolding callAt

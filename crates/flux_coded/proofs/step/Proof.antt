@@ -2,7 +2,7 @@
 use mathlib.Core.Path.{sym, ap, _∙_}
 use Rattle.flux.specs.Answers.{ofStep}
 use Rattle.scp_boundary.specs.Boundary.{stepNumbers}
-use Rattle.scp_boundary.proofs.CodeAndBuffer.{pass-values, pass-refusal}
+use Rattle.boundary.proofs.CodeAndBuffer.{pass-values, pass-refusal}
 use borrow.Author.Needs.{needs}
 use Rattle.flux_coded.proofs.step.Statement.{statement}
 use Rattle.flux_coded.proofs.step.Tie as tie

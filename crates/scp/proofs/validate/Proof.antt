@@ -3,7 +3,8 @@ use mathlib.Core.Path.{_≡_, refl, sym, _∙_}
 use borrow.Author.Needs.{needs}
 use Rattle.scp_fields.specs.Header.{storedSum}
 use Rattle.scp.specs.Validating.{wantedSum}
-use Rattle.scp_lookup.proofs.Asking.{opened-fault, opened-number, open-least, is-refusal}
+use Rattle.scp_lookup.proofs.Asking.{opened-fault, opened-number, open-least}
+use Rattle.refusals.proofs.Finding.{is-refusal}
 use Rattle.scp.proofs.Answering.{unless-refused, unless-passes, validate-open, validate-sum, validate-passes}
 use Rattle.scp.proofs.validate.Statement.{statement}
 use Rattle.scp.proofs.validate.Tie as tie

@@ -4,8 +4,9 @@ use mathlib.Core.List.{[], _∷_}
 use lib.Ieee.{Float}
 use Rattle.scp_speed.specs.declared.Speed.{Speed}
 use Rattle.scp.specs.Answers.{ofSpeedOnly}
-use Rattle.scp_boundary.specs.Boundary.{gives, floatsOf}
-use Rattle.scp_boundary.proofs.CodeAndBuffer.{pass-values, first-same}
+use Rattle.boundary.specs.Boundary.{gives}
+use Rattle.scp_boundary.specs.Boundary.{floatsOf}
+use Rattle.boundary.proofs.CodeAndBuffer.{pass-values, first-same}
 use borrow.Author.Needs.{needs}
 use Rattle.scp_boundary.proofs.give_speed.Statement.{statement}
 use Rattle.scp_boundary.proofs.give_speed.Tie as tie

@@ -2,7 +2,8 @@
 use mathlib.Core.Path.{sym, ap, _∙_}
 use Rattle.scp.specs.Answers.{Answer}
 use Rattle.scp_rewrite.specs.Answering.{ofRewritten}
-use Rattle.scp_boundary.specs.Boundary.{codeOf, numbersOf}
+use Rattle.boundary.specs.Boundary.{codeOf}
+use Rattle.scp_boundary.specs.Boundary.{numbersOf}
 use borrow.Author.Needs.{needs}
 use Rattle.scp_c.proofs.scp_rewrite.Statement.{statement}
 use Rattle.scp_c.proofs.scp_rewrite.Tie as tie

@@ -3,7 +3,7 @@ use mathlib.Core.Path.{sym, ap, _∙_}
 use Rattle.scp.specs.Answers.{bytes, ofRevolution}
 use Rattle.scp_values.proofs.FoundFlux.{flux-found, flux-refused}
 use Rattle.scp_boundary.specs.Boundary.{numbersOf}
-use Rattle.scp_boundary.proofs.CodeAndBuffer.{pass-values, pass-refusal}
+use Rattle.boundary.proofs.CodeAndBuffer.{pass-values, pass-refusal}
 use borrow.Author.Needs.{needs}
 use Rattle.scp_coded.proofs.flux.Statement.{statement}
 use Rattle.scp_coded.proofs.flux.Tie as tie

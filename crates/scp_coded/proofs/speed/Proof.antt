@@ -2,7 +2,7 @@
 use mathlib.Core.Path.{sym, ap, _∙_}
 use Rattle.scp.specs.Answers.{ofSpeed}
 use Rattle.scp_boundary.specs.Boundary.{floatsOf}
-use Rattle.scp_boundary.proofs.CodeAndBuffer.{pass-values, pass-refusal}
+use Rattle.boundary.proofs.CodeAndBuffer.{pass-values, pass-refusal}
 use borrow.Author.Needs.{needs}
 use Rattle.scp_coded.proofs.speed.Statement.{statement}
 use Rattle.scp_coded.proofs.speed.Tie as tie

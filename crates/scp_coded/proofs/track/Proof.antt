@@ -1,8 +1,9 @@
 -- The numbers put, or the refusal returned, are those of the answer which the call gives.
 use mathlib.Core.Path.{sym, ap, _∙_}
 use Rattle.scp.specs.Answers.{ofTrack}
-use Rattle.scp_boundary.specs.Boundary.{gives, numbersOf}
-use Rattle.scp_boundary.proofs.CodeAndBuffer.{pass-values, pass-refusal}
+use Rattle.boundary.specs.Boundary.{gives}
+use Rattle.scp_boundary.specs.Boundary.{numbersOf}
+use Rattle.boundary.proofs.CodeAndBuffer.{pass-values, pass-refusal}
 use borrow.Author.Needs.{needs}
 use Rattle.scp_coded.proofs.track.Statement.{statement}
 use Rattle.scp_coded.proofs.track.Tie as tie

@@ -3,8 +3,9 @@ use mathlib.Core.Path.{sym, ap, _∙_}
 use mathlib.Core.List.{[], _∷_}
 use lib.Ieee.{Float}
 use Rattle.scp.specs.Answers.{ofTrackSpeed}
-use Rattle.scp_boundary.specs.Boundary.{gives, floatsOf}
-use Rattle.scp_boundary.proofs.CodeAndBuffer.{pass-values, pass-refusal, first-same}
+use Rattle.boundary.specs.Boundary.{gives}
+use Rattle.scp_boundary.specs.Boundary.{floatsOf}
+use Rattle.boundary.proofs.CodeAndBuffer.{pass-values, pass-refusal, first-same}
 use borrow.Author.Needs.{needs}
 use Rattle.scp_coded.proofs.track_speed.Statement.{statement}
 use Rattle.scp_coded.proofs.track_speed.Tie as tie

@@ -1,7 +1,8 @@
 -- The number is that of the answer which the call gives, in each of its cases.
 use mathlib.Core.Path.{sym, ap, _∙_}
 use Rattle.scp.specs.Answers.{Answer, ofValidated}
-use Rattle.scp_boundary.specs.Boundary.{codeOf, numbersOf}
+use Rattle.boundary.specs.Boundary.{codeOf}
+use Rattle.scp_boundary.specs.Boundary.{numbersOf}
 use borrow.Author.Needs.{needs}
 use Rattle.scp_coded.proofs.validate.Statement.{statement}
 use Rattle.scp_coded.proofs.validate.Tie as tie

@@ -2,7 +2,8 @@
 use mathlib.Core.Path.{sym, ap, _∙_}
 use borrow.Author.Needs.{needs}
 use Rattle.scp_lookup.specs.declared.Entry.the-variants as entry
-use Rattle.scp_lookup.proofs.Asking.{opened-fault, opened-number, opened-entry, then-open, then-high, then-absent, is-refusal}
+use Rattle.scp_lookup.proofs.Asking.{opened-fault, opened-number, opened-entry, then-open, then-high, then-absent}
+use Rattle.refusals.proofs.Finding.{is-refusal}
 use Rattle.scp_lookup.proofs.FoundLaws.{track-refused, track-found}
 use Rattle.scp_lookup.proofs.find_track.Statement.{statement}
 use Rattle.scp_lookup.proofs.find_track.Tie as tie

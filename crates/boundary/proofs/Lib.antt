@@ -1,0 +1,4 @@
+pub mod ExactCodes
+pub mod SmallCodes
+pub mod GivenValues
+pub mod CodeAndBuffer

@@ -1,0 +1,79 @@
+-- The chain of refusals of a call: 30 to 35, then 13 for the track and the side, then what comes after; and an answer, unless it is refused.
+use Prim.Native.Nat.{ℕ, _<_}
+use mathlib.Core.Path.{_≡_, refl, sym, ap, _∙_}
+use mathlib.Core.List.{List}
+use mathlib.Core.Bool.{Bool, true, false, _||_}
+use lib.Dec.{leb}
+use borrow.Author.Tests.{eq-eqb, ne-eqb, lt-leb, leb-false}
+use Rattle.refusals.specs.declared.Refusal.{Refusal}
+use Rattle.refusals.specs.Refusals.{none, refusal, refuseIf, firstOf}
+use Rattle.refusals.proofs.Chain.{first-here, first-next}
+use Rattle.refusals.proofs.Finding.{neither, both-clear, not-refused}
+use Rattle.dsk_fields.specs.Fields.{tracks, sides}
+use Rattle.dsk_check.specs.Faults.{dskFault}
+use Rattle.dsk.specs.Questions.{blockThen, blockQuestion}
+use Rattle.dsk.specs.Answers.{unless}
+
+-- ---- an answer, unless it is refused
+
+module _ {A : Type 0} (q : Refusal) (found : A) (refused : Refusal → A) where
+  pub unless-refused : {f : Refusal} → f ≡ q → (f .number ≡ 0 → ⊥) → refused f ≡ unless q found refused
+  unless-refused {f} e n =
+      ap refused e ∙ sym (simp (ne-eqb (q .number) 0 (λ z. n (ap (λ (x : Refusal). x .number) e ∙ z))))
+
+  pub unless-found : {x : A} → q .number ≡ 0 → x ≡ found → x ≡ unless q found refused
+  unless-found z e = e ∙ sym (simp (eq-eqb (q .number) 0 z))
+
+-- ---- what comes after the track and the side
+
+module _ (b : List ℕ) (t s : ℕ) where
+  -- the block is there, in an image that is accepted
+  pub record BlockThere : Type 0 where
+    pub accepted : dskFault b .number ≡ 0
+    pub track : t < tracks b
+    pub side : s < sides b
+
+  pub then-check : {f : Refusal} (rest : Refusal) → f ≡ dskFault b → (f .number ≡ 0 → ⊥) → f ≡ blockThen b t s rest
+  unfolding blockThen
+  then-check rest e n = first-here (dskFault b) _ e n
+
+  accepted-then : (rest : Refusal) → dskFault b .number ≡ 0
+      → refuseIf (leb (tracks b) t || leb (sides b) s) (refusal 13 0) rest ≡ blockThen b t s rest
+  unfolding blockThen
+  accepted-then rest z = first-next (dskFault b) _ refl z refl
+
+  pub then-absent : (rest : Refusal) → dskFault b .number ≡ 0 → leb (tracks b) t || leb (sides b) s ≡ true → refusal 13 0 ≡ blockThen b t s rest
+  then-absent rest z h = unfold refuseIf in (sym (simp h) ∙ accepted-then rest z)
+
+  pub then-rest : (rest : Refusal) → BlockThere → rest ≡ blockThen b t s rest
+  then-rest rest h =
+      unfold refuseIf in
+      (sym (simp (lt-leb (tracks b) t (h .track), lt-leb (sides b) s (h .side))) ∙ accepted-then rest (h .accepted))
+
+  -- neither the track nor the side is too high
+  pub both-there : dskFault b .number ≡ 0 → leb (tracks b) t || leb (sides b) s ≡ false → BlockThere
+  both-there z h =
+      let low = neither (leb (tracks b) t) (leb (sides b) s) h in
+      record { accepted = z; track = leb-false (tracks b) t (low .0); side = leb-false (sides b) s (low .1) }
+
+  -- a call that is not refused finds the block
+  pub there : (rest : Refusal) → blockThen b t s rest .number ≡ 0 → BlockThere
+  unfolding blockThen
+  there rest h =
+      let first = both-clear (dskFault b) _ h in
+      both-there (first .0) (not-refused (leb (tracks b) t || leb (sides b) s) 12 0 rest (first .1) .0)
+
+  pub block-passes : BlockThere → blockQuestion b t s .number ≡ 0
+  block-passes h = ap (λ (x : Refusal). x .number) (sym (then-rest none h))
+
+-- what refuses before the end of a chain refuses whatever its end is
+alike : (x y : Bool) (f g rest : Refusal) → (refuseIf x f (refuseIf y g none) .number ≡ 0 → ⊥)
+    → refuseIf x f (refuseIf y g none) ≡ refuseIf x f (refuseIf y g rest)
+unfolding refuseIf
+alike true y f g rest n = refl
+alike false true f g rest n = refl
+alike false false f g rest n = absurd (n refl)
+
+pub refused-alike : (b : List ℕ) (t s : ℕ) (rest : Refusal) → (blockQuestion b t s .number ≡ 0 → ⊥) → blockQuestion b t s ≡ blockThen b t s rest
+unfolding blockThen firstOf
+refused-alike b t s rest n = alike _ _ _ _ rest n
