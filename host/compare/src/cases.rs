@@ -1,20 +1,15 @@
 //! Cases by number: an input by chance, and the questions that are put to both.
 
+use crate::ask::{agree_on, Case};
 use crate::generate;
 use crate::image::{duration_at, entry_at, flux_bytes, number_at};
-use crate::question::{compare, Question};
+use crate::question::Question;
 use crate::random::Random;
 use crate::sequence::{ANSWER, CALL};
 
-/// An input, an image or flux, and questions about it.
-pub struct Case {
-    pub bytes: Vec<u8>,
-    pub questions: Vec<Question>,
-}
-
-/// The case of a number, under a seed.
-pub fn case(seed: u64, number: u64) -> Case {
-    let mut random = Random::new(seed.wrapping_mul(0xD6E8_FEB8_6659_FD93) ^ number.wrapping_mul(0xA24B_AED4_963E_E407));
+/// The case of a number, under a seed: an image or flux, and questions about it.
+pub fn case(seed: u64, number: u64) -> Case<Question> {
+    let mut random = Random::of_case(seed, number);
     match number % 8 {
         0..=3 => image_case(&mut random),
         4 | 5 => sequence_case(&mut random),
@@ -26,7 +21,7 @@ pub fn case(seed: u64, number: u64) -> Case {
 // ---- images
 
 /// An image, and every question about some of its tracks, present, absent and none.
-fn image_case(random: &mut Random) -> Case {
+fn image_case(random: &mut Random) -> Case<Question> {
     let bytes = generate::image(random);
     let mut questions =
         vec![Question::Validate, Question::Header { places: places(random, 9) }, Question::Footer { places: places(random, 13) }];
@@ -101,15 +96,11 @@ pub fn agree(name: &str, image: &[u8]) {
             questions.push(Question::Rewrite { track, revolution, duration: 1, words });
         }
     }
-    for question in questions {
-        if let Err(difference) = compare(image, &question) {
-            panic!("{name}: {question:?}: {difference:?}");
-        }
-    }
+    agree_on(name, image, questions);
 }
 
 /// So many places as needed, or some more or fewer.
-fn places(random: &mut Random, needed: usize) -> usize {
+pub fn places(random: &mut Random, needed: usize) -> usize {
     match random.below(6) {
         0 => needed.saturating_sub(1),
         1 => needed + 1 + random.below(3),
@@ -178,7 +169,7 @@ fn new_words(image: &[u8], track: u32, revolution: u32, random: &mut Random) -> 
 // ---- sequences of calls
 
 /// An image and a sequence of calls on it, most of them rewrites and questions of the same few revolutions.
-fn sequence_case(random: &mut Random) -> Case {
+fn sequence_case(random: &mut Random) -> Case<Question> {
     let bytes = generate::image(random);
     let (mut calls, mut words) = (Vec::new(), Vec::new());
     let tracks = [some_track(&bytes, random), some_track(&bytes, random)];
@@ -213,7 +204,7 @@ fn sequence_case(random: &mut Random) -> Case {
 // ---- flux and times
 
 /// Flux of words, and now and then of an odd number of bytes: steps from some words, and all intervals into some places.
-fn flux_case(random: &mut Random) -> Case {
+fn flux_case(random: &mut Random) -> Case<Question> {
     let most = random.pick(&[3, 12, 12, 300]);
     let words = generate::words(random, most);
     let closing = words.iter().filter(|&&word| word != 0).count();
@@ -233,7 +224,7 @@ fn flux_case(random: &mut Random) -> Case {
 }
 
 /// Times at the edges of what words express, into some room.
-fn times_case(random: &mut Random) -> Case {
+fn times_case(random: &mut Random) -> Case<Question> {
     let long = random.once_in(60);
     let time = |random: &mut Random| match random.below(40) {
         0 => random.pick(&[0, 65_536, 131_072, 4_294_967_296, 4_294_967_297, 1 << 40, u64::MAX, 4_294_901_760]),

@@ -1,78 +1,100 @@
 //! How often each number of refusal came up.
 
-use crate::difference::Agreed;
-use crate::sequence::NOT_IN_ROWS;
+use std::collections::BTreeMap;
 use std::fmt;
 
-/// How many answers there were by the number of their refusal, 0 for none.
-#[derive(Clone, Debug, Default)]
-struct Tally {
-    times: [u64; 19],
+/// What is counted together.
+#[derive(Debug)]
+pub struct Kind {
+    /// What all of them are called, and what one is.
+    pub all: &'static str,
+    pub one: &'static str,
+    /// The numbers that are told, 0 for an answer.
+    pub numbers: &'static [u32],
+    /// Those among them that cannot come up.
+    pub never: &'static [u32],
 }
 
-/// The answers of single calls, a replay as a whole among them, and those in the rows of replays.
-#[derive(Clone, Debug, Default)]
+/// How many answers there were, by kind, by the number of their refusal.
+#[derive(Clone, Debug)]
 pub struct Count {
-    calls: Tally,
-    rows: Tally,
+    tallies: Vec<Tally>,
+}
+
+#[derive(Clone, Debug)]
+struct Tally {
+    kind: &'static Kind,
+    times: BTreeMap<u32, u64>,
 }
 
 impl Count {
-    /// Counts an answer, and its rows.
-    pub fn note(&mut self, agreed: &Agreed) {
-        self.calls.note(agreed.number);
-        for &number in &agreed.rows {
-            self.rows.note(number);
+    /// None of these kinds yet.
+    pub fn new(kinds: &'static [Kind]) -> Count {
+        let tally = |kind: &'static Kind| Tally { kind, times: kind.numbers.iter().map(|&number| (number, 0)).collect() };
+        Count { tallies: kinds.iter().map(tally).collect() }
+    }
+
+    /// Counts an answer of a kind.
+    pub fn note(&mut self, kind: usize, number: u32) {
+        *self.tallies[kind].times.entry(number).or_default() += 1;
+    }
+
+    /// Counts what another one of the same kinds counts.
+    pub fn add(&mut self, other: &Count) {
+        for (mine, theirs) in self.tallies.iter_mut().zip(&other.tallies) {
+            for (&number, times) in &theirs.times {
+                *mine.times.entry(number).or_default() += times;
+            }
         }
     }
 
-    /// Counts what another one counts.
-    pub fn add(&mut self, other: &Count) {
-        self.calls.add(&other.calls);
-        self.rows.add(&other.rows);
+    /// A line for each number that could and never did come up.
+    pub fn missing(&self) -> Vec<String> {
+        self.tallies.iter().flat_map(Tally::missing).collect()
     }
 
-    /// A line for each number that never came up, in single calls or in the rows that may hold it.
-    pub fn missing(&self) -> Vec<String> {
-        let line = |what, number: u32| match number {
-            0 => format!("no {what} was answered"),
-            _ => format!("no {what} was refused with {number}"),
-        };
-        let calls = self.calls.missing().map(|number| line("single call", number));
-        let rows = self.rows.missing().filter(|number| !NOT_IN_ROWS.contains(number));
-        calls.chain(rows.map(|number| line("row of a replay", number))).collect()
+    /// A line for each number that cannot come up and did.
+    pub fn wrong(&self) -> Vec<String> {
+        self.tallies.iter().flat_map(Tally::wrong).collect()
     }
 }
 
 impl fmt::Display for Count {
     fn fmt(&self, f: &mut fmt::Formatter<'_>) -> fmt::Result {
-        write!(f, "single calls: {}\nrows of replays (none is refused with 15 or 16): {}", self.calls, self.rows)
+        let lines: Vec<String> = self.tallies.iter().map(Tally::to_string).collect();
+        write!(f, "{}", lines.join("\n"))
+    }
+}
+
+impl Kind {
+    /// Whether a number can come up.
+    fn gives(&self, number: u32) -> bool {
+        self.numbers.contains(&number) && !self.never.contains(&number)
     }
 }
 
 impl Tally {
-    /// Counts an answer; the reader gives no number above 18.
-    fn note(&mut self, number: u32) {
-        self.times[number as usize] += 1;
+    fn missing(&self) -> impl Iterator<Item = String> + '_ {
+        let absent = self.times.iter().filter(|(&number, &times)| times == 0 && self.kind.gives(number));
+        absent.map(|(number, _)| match number {
+            0 => format!("no {} was answered", self.kind.one),
+            _ => format!("no {} was refused with {number}", self.kind.one),
+        })
     }
 
-    fn add(&mut self, other: &Tally) {
-        for (mine, theirs) in self.times.iter_mut().zip(other.times) {
-            *mine += theirs;
-        }
-    }
-
-    /// The numbers that never came up.
-    fn missing(&self) -> impl Iterator<Item = u32> + '_ {
-        (0..).zip(self.times).filter(|&(_, times)| times == 0).map(|(number, _)| number)
+    fn wrong(&self) -> impl Iterator<Item = String> + '_ {
+        let wrong = self.times.iter().filter(|(&number, &times)| times > 0 && !self.kind.gives(number));
+        wrong.map(|(number, _)| format!("a {} was refused with {number}, which it never gives", self.kind.one))
     }
 }
 
 impl fmt::Display for Tally {
     fn fmt(&self, f: &mut fmt::Formatter<'_>) -> fmt::Result {
-        let [answered, refused @ ..] = self.times;
-        let refused: Vec<String> = (1..).zip(refused).map(|(number, times): (u32, u64)| format!("{number}: {times}")).collect();
-        write!(f, "{}, of them answered {answered}; refused with {}", self.times.iter().sum::<u64>(), refused.join(", "))
+        let answered = self.times.get(&0).unwrap_or(&0);
+        let refused = self.times.iter().filter(|(&number, _)| number != 0);
+        let refused: Vec<String> = refused.map(|(number, times)| format!("{number}: {times}")).collect();
+        let all: u64 = self.times.values().sum();
+        write!(f, "{}: {all}, of them answered {answered}; refused with {}", self.kind.all, refused.join(", "))
     }
 }
 
@@ -80,31 +102,47 @@ impl fmt::Display for Tally {
 mod tests {
     use super::*;
 
-    /// Each number once in single calls, and in a row.
+    const KINDS: [Kind; 2] = [
+        Kind { all: "calls", one: "call", numbers: &[0, 1, 2, 15], never: &[] },
+        Kind { all: "rows (none is refused with 15)", one: "row", numbers: &[0, 1, 2, 15], never: &[15] },
+    ];
+
+    /// Each number that can come up once, in calls and in rows.
     fn all() -> Count {
-        let mut count = Count::default();
-        for number in 0..19 {
-            count.note(&Agreed { number, rows: vec![number] });
-        }
+        let mut count = Count::new(&KINDS);
+        [0, 1, 2, 15].into_iter().for_each(|number| count.note(0, number));
+        [0, 1, 2].into_iter().for_each(|number| count.note(1, number));
         count
     }
 
     #[test]
     fn a_number_that_never_came_up_is_named() {
         assert_eq!(all().missing(), [""; 0]);
-        let mut count = Count::default();
-        count.note(&Agreed { number: 0, rows: vec![1; 3] });
-        assert_eq!((count.missing().len(), count.missing()[0].as_str()), (18 + 16, "no single call was refused with 1"));
-        assert_eq!(count.missing()[18], "no row of a replay was answered");
-        assert!(!count.missing().iter().any(|line| line.contains("row") && (line.ends_with(" 15") || line.ends_with(" 16"))));
+        let mut count = Count::new(&KINDS);
+        count.note(0, 0);
+        count.note(1, 1);
+        let calls = ["no call was refused with 1", "no call was refused with 2", "no call was refused with 15"];
+        assert_eq!(count.missing(), [&calls[..], &["no row was answered", "no row was refused with 2"]].concat());
+    }
+
+    #[test]
+    fn a_number_that_is_never_given_is_named() {
+        assert_eq!(all().wrong(), [""; 0]);
+        let mut count = all();
+        count.note(0, 13);
+        count.note(1, 15);
+        let mut total = all();
+        total.add(&count);
+        assert_eq!(total.wrong(), ["a call was refused with 13, which it never gives", "a row was refused with 15, which it never gives"]);
+        assert_eq!(total.missing(), [""; 0]);
     }
 
     #[test]
     fn every_number_is_printed() {
         let mut count = all();
         count.add(&all());
-        let times: Vec<String> = (1..19).map(|number| format!("{number}: 2")).collect();
-        let line = format!("38, of them answered 2; refused with {}", times.join(", "));
-        assert_eq!(count.to_string(), format!("single calls: {line}\nrows of replays (none is refused with 15 or 16): {line}"));
+        let calls = "calls: 8, of them answered 2; refused with 1: 2, 2: 2, 15: 2";
+        let rows = "rows (none is refused with 15): 6, of them answered 2; refused with 1: 2, 2: 2, 15: 0";
+        assert_eq!(count.to_string(), format!("{calls}\n{rows}"));
     }
 }

@@ -1,14 +1,25 @@
 //! Where library and reader agree, and where they differ: in the code that a call returns, or in a buffer that it was lent.
 
 use crate::guarded::{Guarded, Same};
-use scp_reader as reader;
 use std::fmt::Debug;
 
-/// What the two agree on: the number of the call's refusal, 0 for none, and of a sequence that of each row.
-#[derive(Clone, Debug, PartialEq, Eq)]
-pub struct Agreed {
+/// A refusal of either reader.
+#[derive(Clone, Copy, Debug, PartialEq, Eq)]
+pub struct Refusal {
     pub number: u32,
-    pub rows: Vec<u32>,
+    pub position: u64,
+}
+
+impl From<scp_reader::Refusal> for Refusal {
+    fn from(refusal: scp_reader::Refusal) -> Refusal {
+        Refusal { number: refusal.number, position: refusal.position }
+    }
+}
+
+impl From<dsk_reader::Refusal> for Refusal {
+    fn from(refusal: dsk_reader::Refusal) -> Refusal {
+        Refusal { number: refusal.number, position: refusal.position }
+    }
 }
 
 /// Where the two differ.
@@ -20,7 +31,7 @@ pub struct Difference {
 }
 
 /// A refusal as the boundary returns it.
-fn code(refusal: reader::Refusal) -> u64 {
+fn code(refusal: Refusal) -> u64 {
     u64::from(refusal.number) + 256 * refusal.position
 }
 
@@ -32,9 +43,9 @@ pub fn after<T: Copy>(old: T, places: usize, values: &[T]) -> Vec<T> {
 }
 
 /// The reader's refusal number, where the library returned the same code.
-pub fn same_code<T>(expected: &Result<T, reader::Refusal>, got: u64) -> Result<u32, Difference> {
-    let refusal = expected.as_ref().err();
-    let wanted = refusal.map_or(0, |refusal| code(*refusal));
+pub fn same_code<T>(expected: &Result<T, impl Copy + Into<Refusal>>, got: u64) -> Result<u32, Difference> {
+    let refusal: Option<Refusal> = expected.as_ref().err().map(|&refusal| refusal.into());
+    let wanted = refusal.map_or(0, code);
     if wanted != got {
         let tell = |code: u64| format!("{code} (refusal {} at {})", code % 256, code / 256);
         return Err(Difference { what: "the code returned".to_string(), reader: tell(wanted), library: tell(got) });

@@ -225,7 +225,7 @@ fn resize(image: &mut Vec<u8>, random: &mut Random) {
 }
 
 /// Changes one of n bytes from a place on.
-fn spoil_byte(image: &mut [u8], place: usize, n: usize, random: &mut Random) {
+pub fn spoil_byte(image: &mut [u8], place: usize, n: usize, random: &mut Random) {
     let at = place + random.below(n);
     if let Some(byte) = image.get_mut(at) {
         *byte ^= 1 << random.below(8);
@@ -233,7 +233,7 @@ fn spoil_byte(image: &mut [u8], place: usize, n: usize, random: &mut Random) {
 }
 
 /// Sets a byte to one of the values.
-fn spoil_field(image: &mut [u8], place: usize, values: &[u8], random: &mut Random) {
+pub fn spoil_field(image: &mut [u8], place: usize, values: &[u8], random: &mut Random) {
     set(image, place, &[random.pick(values)]);
 }
 

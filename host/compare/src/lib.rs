@@ -1,13 +1,19 @@
-//! The proved library beside the independent reader.
+//! The proved libraries beside the independent readers, for SCP and for DSK images.
 //!
 //! A case is an input by chance (an image, flux, times, or an image with a sequence of calls) with the questions that are put to both.
-//! Cases are numbered; a seed and a number give the same case again.
+//! Cases are numbered; a seed and a number give the same case again. The modules of DSK images are those with `dsk` in their name.
 
 #![forbid(unsafe_code)]
 
+pub mod ask;
+pub mod boundary;
 pub mod cases;
 pub mod count;
 pub mod difference;
+pub mod dsk_cases;
+pub mod dsk_generate;
+pub mod dsk_image;
+pub mod dsk_question;
 pub mod generate;
 pub mod guarded;
 pub mod image;

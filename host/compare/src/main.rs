@@ -1,17 +1,19 @@
-//! Runs the comparison: `compare [--cases N] [--seed S] [--case NUMBER]`.
+//! Runs the comparison: `compare [--format F] [--cases N] [--seed S] [--case NUMBER]`.
 
 #![forbid(unsafe_code)]
 
-use scp_compare::cases::case;
+use scp_compare::ask::{Ask, Case};
 use scp_compare::count::Count;
-use scp_compare::question::compare;
 use scp_compare::shrink::{dump, smallest};
+use scp_compare::{cases, dsk_cases};
 use std::process::ExitCode;
 use std::sync::atomic::{AtomicBool, AtomicU64, Ordering};
 use std::thread;
 
-const USAGE: &str = "usage: compare [--cases N] [--seed S] [--case NUMBER]
-  --cases N      how many cases (default 240000); from 10000 on, a number of refusal that never came up is a failure
+const USAGE: &str = "usage: compare [--format F] [--cases N] [--seed S] [--case NUMBER]
+  --format F     only this format, scp or dsk (default: one after the other)
+  --cases N      how many cases of a format (default 240000 of scp, 120000 of dsk); from 10000 on, a number of refusal that never came up
+                 is a failure
   --seed S       the seed (default 1)
   --case NUMBER  only this case";
 
@@ -19,9 +21,17 @@ const USAGE: &str = "usage: compare [--cases N] [--seed S] [--case NUMBER]
 const ENOUGH: u64 = 10_000;
 
 struct Options {
-    cases: u64,
+    format: Option<String>,
+    cases: Option<u64>,
     seed: u64,
     only: Option<u64>,
+}
+
+/// A format: its name, how many cases it has where nobody says, and its case of a seed and a number.
+struct Format<Q> {
+    name: &'static str,
+    cases: u64,
+    case: fn(u64, u64) -> Case<Q>,
 }
 
 fn main() -> ExitCode {
@@ -32,44 +42,63 @@ fn main() -> ExitCode {
             return ExitCode::from(2);
         }
     };
-    match run(&options) {
-        Ok(count) => report(&options, &count),
-        Err(failure) => {
-            print!("{failure}");
-            ExitCode::FAILURE
-        }
-    }
+    let scp = agrees(&options, &Format { name: "scp", cases: 240_000, case: cases::case });
+    let dsk = agrees(&options, &Format { name: "dsk", cases: 120_000, case: dsk_cases::case });
+    ExitCode::from(u8::from(!(scp && dsk)))
 }
 
 fn options(mut words: impl Iterator<Item = String>) -> Result<Options, String> {
-    let mut options = Options { cases: 240_000, seed: 1, only: None };
+    let mut options = Options { format: None, cases: None, seed: 1, only: None };
     while let Some(word) = words.next() {
-        let value = words.next().ok_or(format!("{word} needs a number"))?;
-        let number = value.parse().map_err(|_| format!("{value} is not a number"))?;
+        let value = words.next().ok_or(format!("{word} needs a value"))?;
+        let number = || value.parse().map_err(|_| format!("{value} is not a number"));
         match word.as_str() {
-            "--cases" => options.cases = number,
-            "--seed" => options.seed = number,
-            "--case" => options.only = Some(number),
+            "--format" if value == "scp" || value == "dsk" => options.format = Some(value),
+            "--format" => return Err(format!("{value} is not a format")),
+            "--cases" => options.cases = Some(number()?),
+            "--seed" => options.seed = number()?,
+            "--case" => options.only = Some(number()?),
             _ => return Err(format!("{word} is not an option")),
         }
     }
     Ok(options)
 }
 
+/// Compares one format, unless another is asked for, and says how that went.
+fn agrees<Q: Ask>(options: &Options, format: &Format<Q>) -> bool {
+    if options.format.as_ref().is_some_and(|name| name != format.name) {
+        return true;
+    }
+    match run(options, format) {
+        Ok(count) => report(options, format, &count),
+        Err(failure) => {
+            print!("{failure}");
+            false
+        }
+    }
+}
+
+impl Options {
+    /// How many cases of a format there are to be.
+    fn cases<Q>(&self, format: &Format<Q>) -> u64 {
+        self.cases.unwrap_or(format.cases)
+    }
+}
+
 /// Runs all cases on all processors, up to the first difference.
-fn run(options: &Options) -> Result<Count, String> {
+fn run<Q: Ask>(options: &Options, format: &Format<Q>) -> Result<Count, String> {
     if let Some(number) = options.only {
-        return one(options.seed, number);
+        return one(format, options.seed, number);
     }
     let (next, stop) = (AtomicU64::new(0), AtomicBool::new(false));
     let work = || {
-        let mut count = Count::default();
+        let mut count = Count::new(Q::KINDS);
         while !stop.load(Ordering::Relaxed) {
             let number = next.fetch_add(1, Ordering::Relaxed);
-            if number >= options.cases {
+            if number >= options.cases(format) {
                 break;
             }
-            match one(options.seed, number) {
+            match one(format, options.seed, number) {
                 Ok(more) => count.add(&more),
                 Err(failure) => {
                     stop.store(true, Ordering::Relaxed);
@@ -84,7 +113,7 @@ fn run(options: &Options) -> Result<Count, String> {
         let workers: Vec<_> = (0..threads).map(|_| scope.spawn(work)).collect();
         workers.into_iter().map(|worker| worker.join().unwrap_or(Err("a worker panicked\n".to_string()))).collect()
     });
-    let mut total = Count::default();
+    let mut total = Count::new(Q::KINDS);
     for result in results {
         total.add(&result?);
     }
@@ -92,17 +121,19 @@ fn run(options: &Options) -> Result<Count, String> {
 }
 
 /// Puts the questions of one case to both; tells of a difference with a minimal input.
-fn one(seed: u64, number: u64) -> Result<Count, String> {
-    let case = case(seed, number);
-    let mut count = Count::default();
+fn one<Q: Ask>(format: &Format<Q>, seed: u64, number: u64) -> Result<Count, String> {
+    let case = (format.case)(seed, number);
+    let mut count = Count::new(Q::KINDS);
     for question in &case.questions {
-        match compare(&case.bytes, question) {
-            Ok(agreed) => count.note(&agreed),
+        match question.compare(&case.bytes) {
+            Ok(agreed) => question.counted(&agreed).into_iter().for_each(|(kind, number)| count.note(kind, number)),
             Err(difference) => {
                 let (bytes, smaller) = smallest(&case.bytes, question);
-                let now = compare(&bytes, &smaller).err().unwrap_or(difference);
+                let now = smaller.compare(&bytes).err().unwrap_or(difference);
+                let name = format.name;
                 return Err(format!(
-                    "case {number} of seed {seed} (compare --seed {seed} --case {number}): {smaller:?}\n{}: the reader has {}, the library {}\n{}",
+                    "case {number} of seed {seed} (compare --format {name} --seed {seed} --case {number}): {smaller:?}\n\
+                     {}: the reader has {}, the library {}\n{}",
                     now.what,
                     now.reader,
                     now.library,
@@ -114,13 +145,14 @@ fn one(seed: u64, number: u64) -> Result<Count, String> {
     Ok(count)
 }
 
-/// Says what was compared; fails where so many cases never met a number of refusal.
-fn report(options: &Options, count: &Count) -> ExitCode {
-    let cases = if options.only.is_some() { 1 } else { options.cases };
-    println!("compare: seed {}, {cases} cases: library and reader agree\n{count}", options.seed);
+/// Says what was compared; false where so many cases never met a number of refusal, or one met a number that its call never gives.
+fn report<Q>(options: &Options, format: &Format<Q>, count: &Count) -> bool {
+    let cases = if options.only.is_some() { 1 } else { options.cases(format) };
+    println!("compare: {}, seed {}, {cases} cases: library and reader agree\n{count}", format.name, options.seed);
     let missing = if cases >= ENOUGH { count.missing() } else { Vec::new() };
-    for line in &missing {
-        println!("compare: {line}");
+    let faults = [missing, count.wrong()].concat();
+    for line in &faults {
+        println!("compare: {}: {line}", format.name);
     }
-    ExitCode::from(u8::from(!missing.is_empty()))
+    faults.is_empty()
 }

@@ -1,8 +1,11 @@
 //! One call, put to the library and to the reader: answers, every element of every lent buffer, and the guards around them.
 
-use crate::difference::{after, same, same_code, Agreed, Difference};
+use crate::ask::Ask;
+use crate::boundary::{fill, within, BYTE, FLOAT, NUMBER};
+use crate::count::Kind;
+use crate::difference::{after, same, same_code, Difference, Refusal};
 use crate::guarded::{Guarded, Same};
-use crate::sequence;
+use crate::sequence::{self, CALL, NOT_IN_ROWS};
 use scp::raw;
 use scp_reader as reader;
 use std::fmt::Debug;
@@ -25,10 +28,49 @@ pub enum Question {
     Words { times: Vec<u64>, room: usize, places: usize },
 }
 
-/// What the lent buffers hold before a call, and the guards.
-const NUMBER: u64 = 0xD1D2_D3D4_D5D6_D7D8;
-const FLOAT: f64 = -12345.678;
-const BYTE: u8 = 0xE9;
+/// What the two agree on: the number of the call's refusal, 0 for none, and of a sequence that of each row.
+#[derive(Clone, Debug, PartialEq, Eq)]
+pub struct Agreed {
+    pub number: u32,
+    pub rows: Vec<u32>,
+}
+
+/// An answer, and every number of refusal.
+const NUMBERS: &[u32] = &[0, 1, 2, 3, 4, 5, 6, 7, 8, 9, 10, 11, 12, 13, 14, 15, 16, 17, 18];
+
+impl Ask for Question {
+    type Agreed = Agreed;
+
+    /// Single calls, a replay as a whole among them, and the rows of replays.
+    const KINDS: &'static [Kind] = &[
+        Kind { all: "single calls", one: "single call", numbers: NUMBERS, never: &[] },
+        Kind { all: "rows of replays (none is refused with 15 or 16)", one: "row of a replay", numbers: NUMBERS, never: &NOT_IN_ROWS },
+    ];
+
+    fn compare(&self, bytes: &[u8]) -> Result<Agreed, Difference> {
+        compare(bytes, self)
+    }
+
+    fn counted(&self, agreed: &Agreed) -> Vec<(usize, u32)> {
+        let rows = agreed.rows.iter().map(|&number| (1, number));
+        rows.chain([(0, agreed.number)]).collect()
+    }
+
+    /// A sequence without one of its calls, or fewer times.
+    fn without(&self, part: usize) -> Option<Question> {
+        let mut less = self.clone();
+        match &mut less {
+            Question::Sequence { calls, .. } if CALL * (part + 1) <= calls.len() => {
+                calls.drain(CALL * part..CALL * (part + 1));
+            }
+            Question::Words { times, .. } if part < times.len() => {
+                times.remove(part);
+            }
+            _ => return None,
+        }
+        Some(less)
+    }
+}
 
 /// Puts the question about these bytes (an image, or flux) to both.
 pub fn compare(bytes: &[u8], question: &Question) -> Result<Agreed, Difference> {
@@ -97,31 +139,6 @@ fn ask(bytes: &[u8], question: &Question) -> Result<u32, Difference> {
     Ok(number)
 }
 
-// ---- what the boundary makes of an answer
-
-/// 15 where the values need more than the places.
-fn within<T>(expected: Result<Vec<T>, reader::Refusal>, places: usize) -> Result<Vec<T>, reader::Refusal> {
-    match expected {
-        Ok(values) if values.len() > places => Err(reader::Refusal { number: 15, position: 0 }),
-        other => other,
-    }
-}
-
-/// Lends the library a buffer of old elements and compares the code and the buffer with what the reader expects.
-fn fill<T: Copy + Same + Debug>(
-    expected: Result<Vec<T>, reader::Refusal>,
-    places: usize,
-    old: T,
-    call: impl FnOnce(&mut [T]) -> u64,
-) -> Result<u32, Difference> {
-    let expected = within(expected, places);
-    let mut out = Guarded::new(&vec![old; places], old);
-    let got = call(out.lent());
-    let number = same_code(&expected, got)?;
-    same("the buffer lent", &out, &after(old, places, expected.as_deref().unwrap_or(&[])))?;
-    Ok(number)
-}
-
 // ---- the values of answers, as the table of the boundary names them
 
 fn header_numbers(header: &reader::Header) -> [u64; 9] {
@@ -186,7 +203,8 @@ fn fill_two<T: Copy + Same + Debug>(
     places: usize,
     call: impl FnOnce(&mut [T], &mut [u64]) -> u64,
 ) -> Result<u32, Difference> {
-    let expected = expected.and_then(|(values, made)| within(Ok(values), places).map(|values| (values, made)));
+    let expected = expected.map_err(Refusal::from);
+    let expected = expected.and_then(|(values, made)| within(Ok::<_, Refusal>(values), places).map(|values| (values, made)));
     let mut lent = Guarded::new(&vec![old; room], old);
     let mut out = Guarded::new(&vec![NUMBER; places], NUMBER);
     let got = call(lent.lent(), out.lent());
@@ -199,4 +217,18 @@ fn fill_two<T: Copy + Same + Debug>(
     same("the buffer filled", &lent, &after(old, room, &made))?;
     same("the buffer lent", &out, &after(NUMBER, places, &values))?;
     Ok(number)
+}
+
+#[cfg(test)]
+mod tests {
+    use super::*;
+
+    #[test]
+    fn every_number_is_counted_and_rows_never_have_15_and_16() {
+        let all: Vec<u32> = (0..=18).collect();
+        let [calls, rows] = Question::KINDS else { panic!("calls and rows are counted") };
+        assert_eq!((calls.numbers, calls.never), (&all[..], &[][..]));
+        assert_eq!((rows.numbers, rows.never), (&all[..], &[15, 16][..]));
+        assert_eq!(scp::Reason::ALL.map(|reason| u32::from(reason.number())), all[1..]);
+    }
 }

@@ -11,6 +11,11 @@ impl Random {
         Random { state: seed }
     }
 
+    /// The source of a case, by its number under a seed.
+    pub fn of_case(seed: u64, number: u64) -> Random {
+        Random::new(seed.wrapping_mul(0xD6E8_FEB8_6659_FD93) ^ number.wrapping_mul(0xA24B_AED4_963E_E407))
+    }
+
     /// The next number.
     pub fn number(&mut self) -> u64 {
         self.state = self.state.wrapping_add(0x9E37_79B9_7F4A_7C15);

@@ -1,7 +1,8 @@
 //! Sequences of calls, three ways: by the reader, by the library in one go, and by the library call by call.
 
-use crate::difference::{after, same, same_code, Agreed, Difference};
+use crate::difference::{after, same, same_code, Difference};
 use crate::guarded::Guarded;
+use crate::question::Agreed;
 use scp::raw;
 use scp_reader as reader;
 

@@ -1,70 +1,47 @@
 //! A smaller input that still shows a difference.
 
-use crate::question::{compare, Question};
-use crate::sequence::CALL;
+use crate::ask::Ask;
 
 /// How many smaller inputs are tried at most.
 const TRIES: usize = 20_000;
 
 /// Makes bytes and question smaller as long as the two still differ.
-pub fn smallest(bytes: &[u8], question: &Question) -> (Vec<u8>, Question) {
+pub fn smallest<Q: Ask>(bytes: &[u8], question: &Q) -> (Vec<u8>, Q) {
     let mut found = Shrinking { bytes: bytes.to_vec(), question: question.clone(), left: TRIES };
-    while found.left > 0 && (found.fewer_calls() | found.fewer_times() | found.shorter() | found.plainer()) {}
+    while found.left > 0 && (found.fewer_parts() | found.shorter() | found.plainer()) {}
     (found.bytes, found.question)
 }
 
 /// The smallest so far, and how many tries are left.
-struct Shrinking {
+struct Shrinking<Q> {
     bytes: Vec<u8>,
-    question: Question,
+    question: Q,
     left: usize,
 }
 
-impl Shrinking {
+impl<Q: Ask> Shrinking<Q> {
     /// Takes the candidate if the two differ on it, too.
-    fn take(&mut self, bytes: Vec<u8>, question: Question) -> bool {
+    fn take(&mut self, bytes: Vec<u8>, question: Q) -> bool {
         if self.left == 0 {
             return false;
         }
         self.left -= 1;
-        let differs = compare(&bytes, &question).is_err();
+        let differs = question.compare(&bytes).is_err();
         if differs {
             (self.bytes, self.question) = (bytes, question);
         }
         differs
     }
 
-    /// Leaves out calls of a sequence.
-    fn fewer_calls(&mut self) -> bool {
+    /// Leaves out parts of the question.
+    fn fewer_parts(&mut self) -> bool {
         let mut any = false;
-        let mut at = 0;
-        while let Question::Sequence { calls, words, places } = self.question.clone() {
-            if at + CALL > calls.len() {
-                break;
-            }
-            let rest = [&calls[..at], &calls[at + CALL..]].concat();
-            if self.take(self.bytes.clone(), Question::Sequence { calls: rest, words, places }) {
+        let mut part = 0;
+        while let Some(question) = self.question.without(part) {
+            if self.take(self.bytes.clone(), question) {
                 any = true;
             } else {
-                at += CALL;
-            }
-        }
-        any
-    }
-
-    /// Leaves out times.
-    fn fewer_times(&mut self) -> bool {
-        let mut any = false;
-        let mut at = 0;
-        while let Question::Words { times, room, places } = self.question.clone() {
-            if at >= times.len() {
-                break;
-            }
-            let rest = [&times[..at], &times[at + 1..]].concat();
-            if self.take(self.bytes.clone(), Question::Words { times: rest, room, places }) {
-                any = true;
-            } else {
-                at += 1;
+                part += 1;
             }
         }
         any
