@@ -3,15 +3,20 @@
 use std::process::Command;
 
 /// What the tool and its verdicts are made of, from the tool's folder.
-const SOURCES: [&str; 10] = [
+const SOURCES: [&str; 15] = [
     "build.rs",
     "src",
     "Cargo.toml",
     "../Cargo.toml",
     "../Cargo.lock",
+    "../archive/src",
+    "../archive/Cargo.toml",
     "../scp/build.rs",
     "../scp/src",
     "../scp/Cargo.toml",
+    "../dsk/build.rs",
+    "../dsk/src",
+    "../dsk/Cargo.toml",
     "../../crates",
     "../../crates.txt",
 ];
@@ -23,11 +28,25 @@ fn main() {
     let log = git(&["rev-parse", "--git-path", "logs/HEAD"]);
     println!("cargo:rerun-if-changed={}", log.as_deref().unwrap_or("build.rs"));
     println!("cargo:rustc-env=FLUXPROOF_COMMIT={}", commit());
-    // "NAME logic SUM", as `rt version` prints it; the wrapper's build says it of the archive.
-    let identity = std::env::var("DEP_SCP_C_TOOLCHAIN").unwrap_or("unknown".to_string());
+    let (scp, dsk) = (identity("SCP_C"), identity("DSK_C"));
+    println!("cargo:rustc-env=FLUXPROOF_TOOLCHAIN={}", both(&scp.0, &dsk.0));
+    println!("cargo:rustc-env=FLUXPROOF_LOGIC={}", both(&scp.1, &dsk.1));
+}
+
+/// The toolchain and the logic that proved an archive, as the build of its wrapper says them: "NAME logic SUM", as `rt version` prints it.
+fn identity(archive: &str) -> (String, String) {
+    let identity = std::env::var(format!("DEP_{archive}_TOOLCHAIN")).unwrap_or("unknown".to_string());
     let (toolchain, logic) = identity.split_once(" logic ").unwrap_or((&identity, "unknown"));
-    println!("cargo:rustc-env=FLUXPROOF_TOOLCHAIN={toolchain}");
-    println!("cargo:rustc-env=FLUXPROOF_LOGIC={logic}");
+    (toolchain.to_string(), logic.to_string())
+}
+
+/// What is said of both archives where it is the same, else of each.
+fn both(scp: &str, dsk: &str) -> String {
+    if scp == dsk {
+        scp.to_string()
+    } else {
+        format!("{scp} (SCP), {dsk} (DSK)")
+    }
 }
 
 /// The commit that is checked out, if these are its files, and whether the sources differ from it.

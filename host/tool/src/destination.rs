@@ -17,8 +17,10 @@ const ATTEMPTS: u32 = 1000;
 /// What is written.
 #[derive(Clone, Copy, PartialEq, Eq)]
 pub enum Kind {
-    /// A new state of the image, with its permissions.
+    /// A new state of the image, with its permissions where it is a regular file.
     Image,
+    /// A part of the image, with the same permissions; it never takes the image's place.
+    Part,
     /// Something else, which never takes the image's place.
     Drawing,
 }
@@ -51,18 +53,18 @@ impl Destination {
             (Some(0), _) if in_place => {}
             _ if in_place => return refuse("--in-place is given, but this is not the image that was read"),
             (Some(0), Kind::Image) => return refuse("this is the image itself; --in-place replaces it"),
-            (Some(0), Kind::Drawing) => return refuse("this is the image itself"),
+            (Some(0), Kind::Part | Kind::Drawing) => return refuse("this is the image itself"),
             (Some(_), _) => return refuse("the command reads this file, so it is not replaced"),
             (None, _) if found.file.is_some() && !force => return refuse("it exists already; --force replaces it"),
             (None, _) => {}
         }
-        let image = inputs.first().filter(|_| kind == Kind::Image);
-        let mut destination = found.destination(out, image.map(|image| image.permissions()))?;
+        let image = inputs.first().filter(|_| kind != Kind::Drawing);
+        let mut destination = found.destination(out, image.and_then(|image| image.permissions()))?;
         destination.unchanged = image.filter(|_| in_place).and_then(|image| image.stamp.clone());
         Ok(destination)
     }
 
-    /// A file that must not be there yet, beside this one; it has the permissions of the image.
+    /// A file that must not be there yet, beside this one; it has the permissions of the image where that is a regular file.
     pub fn fresh(&self, out: &OsStr, image: &Input) -> Result<Destination, Failure> {
         let found = Found::at(out)?;
         if place(&found.path) == place(&self.path) {
@@ -71,7 +73,7 @@ impl Destination {
         if found.file.is_some() {
             return Err(Failure::file(format!("{}: it exists already, and is never replaced", shown(out))));
         }
-        found.destination(out, Some(image.permissions()))
+        found.destination(out, image.permissions())
     }
 
     /// Writes the bytes to a temporary file in the folder, and to the disk.

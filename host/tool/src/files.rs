@@ -8,12 +8,18 @@ use std::path::Path;
 use scp::Refusal;
 
 use crate::failure::Failure;
+use crate::faults::of_image;
 use crate::reasons::{self, Asked};
 use crate::stamp::Stamp;
 use crate::streams;
 
-/// The greatest image; a longer file is read to one byte more, so that it is refused.
+/// The greatest SCP image; a longer file is read to one byte more, so that an SCP image is refused and a DSK image shown as longer.
 pub const GREATEST: u64 = scp::LONGEST_IMAGE as u64;
+
+/// Whether a file of which these bytes were read is longer than that; then not all of it was read.
+pub fn is_cut(read: &[u8]) -> bool {
+    read.len() as u64 > GREATEST
+}
 
 /// A name as it can be shown on one line; what does not print, and bytes that are not UTF-8, are escaped.
 pub fn shown(name: impl AsRef<OsStr>) -> String {
@@ -37,7 +43,7 @@ pub fn shown(name: impl AsRef<OsStr>) -> String {
 pub struct Input {
     /// Its name, to be shown.
     pub name: String,
-    /// Its bytes, at most one more than the greatest image has.
+    /// Its bytes, at most one more than the greatest SCP image has.
     pub bytes: Vec<u8>,
     /// What it was to the system before it was read.
     metadata: Metadata,
@@ -80,22 +86,31 @@ impl Input {
         Input::read_whole(file, lock).map_err(Failure::file)
     }
 
-    /// Reads a file of lines or words; what is read of a longer one than the greatest image would not be all.
+    /// Reads a file of lines or words; what is read of a longer one than the greatest SCP image would not be all.
     pub fn read_all(file: &OsStr) -> Result<Input, Failure> {
         Input::read(file)?.uncut()
     }
 
     /// The input, if it was read to its end.
     pub fn uncut(self) -> Result<Input, Failure> {
-        if self.bytes.len() as u64 > GREATEST {
+        if is_cut(&self.bytes) {
             return Err(Failure::file(format!("{}: longer than 268,435,456 bytes", self.name)));
         }
         Ok(self)
     }
 
-    /// Who may use it.
-    pub fn permissions(&self) -> Permissions {
-        self.metadata.permissions()
+    /// What stands before a number of its bytes up to the end, where not all of it was read.
+    pub fn at_least(&self) -> &'static str {
+        if is_cut(&self.bytes) {
+            "at least "
+        } else {
+            ""
+        }
+    }
+
+    /// Who may use it, where it is a regular file: those of a pipe, a socket or a device say nothing of what is read from it.
+    pub fn permissions(&self) -> Option<Permissions> {
+        self.is_regular().then(|| self.metadata.permissions())
     }
 
     /// Whether it can be read again.
@@ -113,7 +128,7 @@ impl Input {
 
     /// The library's answer to a question about this image, or its refusal as a failure.
     pub fn ask<'a, T>(&'a self, question: impl FnOnce(&'a [u8]) -> Result<T, Refusal>) -> Result<T, Failure> {
-        question(&self.bytes).map_err(|refusal| self.failure(reasons::of_image(&self.bytes, refusal)))
+        question(&self.bytes).map_err(|refusal| self.failure(of_image(&self.bytes, refusal)))
     }
 
     /// The library's answer to a question about a revolution, or about its track.

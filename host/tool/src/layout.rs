@@ -1,6 +1,8 @@
 //! What the bytes of an image say, accepted or not: for reasons, and for images that are refused.
 
-use scp::{Footer, Header, Revolution, LONGEST_IMAGE, TRACKS};
+use scp::{Footer, Header, Revolution, TRACKS};
+
+use crate::{files, parts};
 
 /// Where the table of the tracks starts; the checksum adds the bytes from here on.
 const TABLE: usize = 0x10;
@@ -39,13 +41,12 @@ pub struct Layout<'a>(pub &'a [u8]);
 impl<'a> Layout<'a> {
     /// As many bytes from an offset on, where the file has them.
     pub fn array<const N: usize>(self, offset: u64) -> Option<[u8; N]> {
-        self.part(offset, N as u64)?.try_into().ok()
+        parts::array(self.0, offset)
     }
 
     /// The bytes from an offset on, where the file has so many.
     pub fn part(self, offset: u64, size: u64) -> Option<&'a [u8]> {
-        let (start, end) = (usize::try_from(offset).ok()?, usize::try_from(offset.checked_add(size)?).ok()?);
-        self.0.get(start..end)
+        parts::part(self.0, offset, size)
     }
 
     /// The 32-bit number at an offset.
@@ -134,6 +135,6 @@ impl<'a> Layout<'a> {
 
     /// Whether the file is longer than any image; then not all of it was read.
     pub fn is_cut(self) -> bool {
-        self.0.len() > LONGEST_IMAGE
+        files::is_cut(self.0)
     }
 }

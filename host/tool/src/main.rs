@@ -1,16 +1,20 @@
-//! The command `fluxproof`: SuperCard Pro flux images on a test bench, by the proved library.
+//! The command `fluxproof`: SuperCard Pro flux images and standard DSK disk images on a test bench, by the proved library.
 #![deny(unsafe_code)]
 
 mod arguments;
 mod checksum;
 mod dates;
 mod destination;
+mod disk;
 mod failure;
+mod faults;
 mod files;
 mod flux;
+mod groups;
 mod layout;
 mod list;
 mod numbers;
+mod parts;
 mod patch;
 mod plot;
 mod read;
@@ -30,12 +34,7 @@ use std::ffi::OsString;
 use std::io::Write;
 use std::process::ExitCode;
 
-use arguments::{suggestion, Arguments, Command};
 use failure::{Failure, Status};
-
-/// All commands, in the order of the help.
-static COMMANDS: [Command; 7] =
-    [list::COMMAND, validate::COMMAND, show::COMMAND, read::COMMAND, patch::COMMAND, replay::COMMAND, plot::COMMAND];
 
 /// Who judges: the tool, its commit, the toolchain that proved the library, and the sum of that toolchain's logic.
 const VERSION: &str = concat!(
@@ -49,9 +48,6 @@ const VERSION: &str = concat!(
     env!("FLUXPROOF_LOGIC"),
     "\n"
 );
-
-/// The help of the tool as a whole.
-const HELP: &str = include_str!("help/fluxproof.txt");
 
 /// Runs the command line; the exit status is 0 for success, else that of the failure.
 fn main() -> ExitCode {
@@ -73,59 +69,13 @@ fn complain(message: &str, status: Status) -> ExitCode {
 /// Does what the words ask for; what standard output says of a failure is not said where it cannot be written.
 fn run(words: Vec<OsString>) -> Result<(), Failure> {
     let mut out = streams::standard_output()?;
-    let ended = obey(words, &mut out);
+    let ended = match words.first() {
+        Some(word) if word == "--version" || word == "-V" => out.write_all(VERSION.as_bytes()).map_err(Failure::from),
+        _ => groups::obey(words, &mut out),
+    };
     let flushed = out.flush().map_err(Failure::from);
     match ended {
         Err(told @ Failure::Told(..)) => Err(told),
         said => flushed.and(said),
     }
-}
-
-/// Finds what the first word asks for, and does it.
-fn obey(mut words: Vec<OsString>, out: &mut dyn Write) -> Result<(), Failure> {
-    if words.is_empty() {
-        return Err(Failure::usage("no command is given; see \"fluxproof --help\""));
-    }
-    let first = words.remove(0);
-    match first.to_string_lossy().as_ref() {
-        "--help" | "-h" => Ok(out.write_all(HELP.as_bytes())?),
-        "--version" | "-V" => Ok(out.write_all(VERSION.as_bytes())?),
-        "help" => help(&words, out),
-        name => command(find(name)?, words, out),
-    }
-}
-
-/// The command of a name.
-fn find(name: &str) -> Result<&'static Command, Failure> {
-    COMMANDS.iter().find(|command| command.name == name).ok_or_else(|| {
-        let names = COMMANDS.each_ref().map(|command| command.name);
-        let (kind, hint) = (if name.starts_with('-') { "option" } else { "command" }, suggestion(name, &names));
-        Failure::usage(format!("unknown {kind} \"{}\"{hint}; see \"fluxproof --help\"", files::shown(name)))
-    })
-}
-
-/// Prints the help of a command, or of the whole tool.
-fn help(words: &[OsString], out: &mut dyn Write) -> Result<(), Failure> {
-    let text = match words {
-        [] => HELP,
-        [name] if name == "help" || name == "--help" || name == "-h" => HELP,
-        [name] => find(&name.to_string_lossy())?.help,
-        _ => return Err(Failure::usage("help takes one command; see \"fluxproof --help\"")),
-    };
-    Ok(out.write_all(text.as_bytes())?)
-}
-
-/// Runs a command, or prints its help where its words ask for that.
-fn command(command: &Command, words: Vec<OsString>, out: &mut dyn Write) -> Result<(), Failure> {
-    let done = match Arguments::parse(command, words) {
-        Ok(Some(arguments)) => (command.run)(&arguments, out),
-        Ok(None) => Ok(out.write_all(command.help.as_bytes())?),
-        Err(failure) => Err(failure),
-    };
-    done.map_err(|failure| match failure {
-        Failure::Told(Status::Usage, message) => {
-            Failure::usage(format!("{}: {message}; see \"fluxproof help {}\"", command.name, command.name))
-        }
-        other => other,
-    })
 }

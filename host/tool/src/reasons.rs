@@ -8,6 +8,7 @@ mod faults;
 
 use scp::{Reason, Refusal, ZERO_WORD_TICKS};
 
+use crate::faults::{of_image, said};
 use crate::layout::Layout;
 use crate::numbers::{counted, grouped};
 pub use faults::{faults, Fault};
@@ -21,12 +22,6 @@ pub struct Asked {
     pub revolution: u32,
     /// How many bytes the new words of a rewrite have.
     pub size: usize,
-}
-
-/// A refusal of an image as it is.
-pub fn of_image(image: &[u8], refusal: Refusal) -> String {
-    let fault = faults(image).into_iter().find(|fault| fault.refusal == refusal);
-    said(refusal, fault.map(|fault| fault.text))
 }
 
 /// A refusal of a question about a revolution, or of its rewrite.
@@ -54,14 +49,6 @@ pub fn of_time(ticks: u64, refusal: Refusal) -> String {
 /// A refusal of more words than a revolution has.
 pub fn of_too_many_words(need: u128, most: u32) -> String {
     said(Refusal { reason: Reason::Words, position: 0 }, Some(too_many(need, most)))
-}
-
-/// A refusal with its text, or with its own where there is none.
-fn said(refusal: Refusal, text: Option<String>) -> String {
-    match text {
-        Some(text) => format!("refused {}", Fault { refusal, text }),
-        None => refusal.to_string(),
-    }
 }
 
 /// Why a track is not there.

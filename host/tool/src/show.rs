@@ -11,10 +11,11 @@ use crate::arguments::{Arguments, Command};
 use crate::checksum::Checksum;
 use crate::dates::utc;
 use crate::failure::{Failure, Status};
+use crate::faults::of_image;
 use crate::files::Input;
 use crate::flux::count_intervals;
 use crate::numbers::{grouped, milliseconds};
-use crate::reasons::{self, Fault};
+use crate::reasons::Fault;
 
 /// The command.
 pub const COMMAND: Command = Command { name: "show", flags: &[], values: &[], help: include_str!("help/show.txt"), run };
@@ -63,7 +64,7 @@ fn run(arguments: &Arguments, out: &mut dyn Write) -> Result<(), Failure> {
     let [file] = arguments.operands(["FILE"])?;
     let input = Input::read(file)?;
     let Err(refusal) = scp::validate(&input.bytes) else { return show(&input, out) };
-    writeln!(out, "{}: {}", input.name, reasons::of_image(&input.bytes, refusal))?;
+    writeln!(out, "{}: {}", input.name, of_image(&input.bytes, refusal))?;
     match scp::header(&input.bytes) {
         Ok(_) => {
             writeln!(out, "The image opens, so that all of it can be read:\n")?;
@@ -96,7 +97,7 @@ fn show(input: &Input, out: &mut dyn Write) -> Result<(), Failure> {
 }
 
 /// A line with a name and a value.
-fn field(out: &mut dyn Write, name: &str, value: impl Display) -> io::Result<()> {
+pub fn field(out: &mut dyn Write, name: &str, value: impl Display) -> io::Result<()> {
     writeln!(out, "{name:<20}{value}")
 }
 

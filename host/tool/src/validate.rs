@@ -3,18 +3,24 @@
 use std::ffi::OsStr;
 use std::io::Write;
 
-use scp::Refusal;
-
 use crate::arguments::{Arguments, Command};
 use crate::failure::{Failure, Status};
+use crate::faults::{of_image, Refused};
 use crate::files::Input;
-use crate::reasons;
 
 /// The command.
 pub const COMMAND: Command = Command { name: "validate", flags: &["--all"], values: &[], help: include_str!("help/validate.txt"), run };
 
-/// Validates each file, also after one that fails.
+/// Validates each file as an SCP image.
 fn run(arguments: &Arguments, out: &mut dyn Write) -> Result<(), Failure> {
+    each_file(arguments, scp::validate, out)
+}
+
+/// What a library says of an image.
+type Judge<R> = fn(&[u8]) -> Result<(), R>;
+
+/// Has each file judged, also after one that fails.
+pub fn each_file<R: Refused>(arguments: &Arguments, judge: Judge<R>, out: &mut dyn Write) -> Result<(), Failure> {
     if arguments.operands.is_empty() {
         return Err(Failure::usage("FILE is missing"));
     }
@@ -23,7 +29,7 @@ fn run(arguments: &Arguments, out: &mut dyn Write) -> Result<(), Failure> {
     }
     let mut worst = Ok(());
     for file in &arguments.operands {
-        let (lines, verdict) = verdict(file, arguments.has("--all"));
+        let (lines, verdict) = verdict(file, judge, arguments.has("--all"));
         worst = worst.max(verdict);
         for line in lines {
             writeln!(out, "{line}")?;
@@ -33,15 +39,15 @@ fn run(arguments: &Arguments, out: &mut dyn Write) -> Result<(), Failure> {
 }
 
 /// The line of a file, with all its faults one for each, and whether it passes.
-fn verdict(file: &OsStr, all: bool) -> (Vec<String>, Result<(), Status>) {
+fn verdict<R: Refused>(file: &OsStr, judge: Judge<R>, all: bool) -> (Vec<String>, Result<(), Status>) {
     let input = match Input::try_read(file) {
         Err(message) => return (vec![message], Err(Status::File)),
         Ok(input) => input,
     };
-    match scp::validate(&input.bytes) {
+    match judge(&input.bytes) {
         Ok(()) => (vec![format!("{}: ok", input.name)], Ok(())),
         Err(refusal) => {
-            let mut lines = vec![format!("{}: {}", input.name, reasons::of_image(&input.bytes, refusal))];
+            let mut lines = vec![format!("{}: {}", input.name, of_image(&input.bytes, refusal))];
             if all {
                 lines.extend(others(&input, refusal));
             }
@@ -51,8 +57,8 @@ fn verdict(file: &OsStr, all: bool) -> (Vec<String>, Result<(), Status>) {
 }
 
 /// A line for each fault but the one that is refused.
-fn others(input: &Input, refusal: Refusal) -> Vec<String> {
-    let mut faults = reasons::faults(&input.bytes);
+fn others<R: Refused>(input: &Input, refusal: R) -> Vec<String> {
+    let mut faults = R::faults(&input.bytes);
     if let Some(first) = faults.iter().position(|fault| fault.refusal == refusal) {
         faults.remove(first);
     }

@@ -1,27 +1,26 @@
 //! The faults of an image, in the order of the rules: the first one is what the library refuses.
 
-use std::fmt;
+use std::fmt::Debug;
 
 use scp::{Footer, Header, Reason, Refusal, LONGEST_IMAGE, STRING_NAMES, TRACKS};
 
+use crate::faults::Refused;
 use crate::layout::{Layout, TrackHeader, FOOTER_SIGN, LEAST_WITH_FOOTER, TABLE_END};
-use crate::numbers::{counted, grouped};
+use crate::numbers::{counted, grouped, hexadecimal};
 
 /// The format version of the oldest footer.
 const FOOTER_FORMAT: u8 = 0x16;
 
-/// A fault of an image: the refusal that it is, and what was found and due.
-#[derive(Debug)]
-pub struct Fault {
-    /// The refusal.
-    pub refusal: Refusal,
-    /// What was found, where, and what was due.
-    pub text: String,
-}
+/// A fault of an SCP image.
+pub type Fault = crate::faults::Fault<Refusal>;
 
-impl fmt::Display for Fault {
-    fn fmt(&self, f: &mut fmt::Formatter<'_>) -> fmt::Result {
-        write!(f, "{} {:?}: {}", self.refusal.reason.number(), self.refusal.reason, self.text)
+impl Refused for Refusal {
+    fn reason(&self) -> (u8, &dyn Debug) {
+        (self.reason.number(), &self.reason)
+    }
+
+    fn faults(image: &[u8]) -> Vec<Fault> {
+        faults(image)
     }
 }
 
@@ -74,7 +73,8 @@ impl Search<'_> {
         let Header { revolutions, start, end, width, heads, .. } = *header;
         let sign = self.layout.array::<3>(0).unwrap_or_default();
         if sign != *b"SCP" {
-            self.note(Reason::Sign, format!("the first three bytes are {}, not SCP", hexadecimal(&sign)));
+            let other = if self.layout.0.starts_with(b"MV - CPC") { " (a DSK image?)" } else { "" };
+            self.note(Reason::Sign, format!("the first three bytes are {}{other}, not SCP", hexadecimal(&sign)));
         }
         if width != 0 && width != 16 {
             self.note(Reason::Width, format!("byte 0x09 is {width}, not 0 or 16"));
@@ -217,10 +217,4 @@ impl Search<'_> {
             self.note(Reason::Sum, format!("stored {}, the bytes add up to {}", grouped(stored.into()), grouped(sum.into())));
         }
     }
-}
-
-/// Bytes as pairs of hexadecimal digits.
-fn hexadecimal(bytes: &[u8]) -> String {
-    let pairs: Vec<String> = bytes.iter().map(|byte| format!("{byte:02X}")).collect();
-    pairs.join(" ")
 }

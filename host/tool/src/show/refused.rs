@@ -19,7 +19,7 @@ pub fn show(input: &Input, out: &mut dyn Write) -> io::Result<()> {
     let layout = Layout(&input.bytes);
     let size = grouped(input.bytes.len() as u64);
     field(out, "image", &input.name)?;
-    field(out, "size", if layout.is_cut() { format!("at least {size} bytes") } else { format!("{size} bytes") })?;
+    field(out, "size", format!("{}{size} bytes", input.at_least()))?;
     let Some(header) = layout.header() else {
         return field(out, "header", "not there");
     };

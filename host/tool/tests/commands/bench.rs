@@ -48,6 +48,13 @@ impl Bench {
         bench
     }
 
+    /// The same, with the example of a DSK image as a.dsk.
+    pub fn with_disk() -> Bench {
+        let bench = Bench::new();
+        bench.put("a.dsk", &dsk::example::image());
+        bench
+    }
+
     /// The path of a file.
     pub fn path(&self, name: &str) -> PathBuf {
         self.folder.join(name)

@@ -139,19 +139,24 @@ fn patches_in_place_at_once_are_all_made() {
 
 #[cfg(unix)]
 mod rights {
+    use std::io::Write;
+    use std::os::fd::OwnedFd;
     use std::os::unix::fs::{chown, MetadataExt, PermissionsExt};
+    use std::os::unix::net::UnixStream;
     use std::os::unix::process::CommandExt;
 
     use super::*;
+    use crate::streams::shell;
 
     /// An owner and a group that no test runs as.
     const NOBODY: u32 = 65_534;
 
     /// What each command does to a file that it replaces.
-    const LINES: [(&str, &str); 5] = [
+    const LINES: [(&str, &str); 6] = [
         ("b", "patch a.scp b 0 0 --duration keep --words words.bin --force"),
         ("b", "replay a.scp calls.txt --out b --force"),
         ("b", "plot a.scp 0 0 b --force"),
+        ("b", "dsk sector a.dsk 0 0 0 --data b --force"),
         ("a.scp", "patch a.scp a.scp 0 0 --duration 1 --words words.bin --in-place"),
         ("a.scp", "replay a.scp calls.txt --out a.scp --in-place"),
     ];
@@ -160,6 +165,7 @@ mod rights {
     fn bench() -> Bench {
         let bench = Bench::with_words();
         bench.put("calls.txt", b"rewrite 0 0 1 -\n");
+        bench.put("a.dsk", &dsk::example::image());
         bench.put("b", b"precious");
         bench.names().iter().for_each(|name| set_mode(&bench, name, 0o644));
         bench
@@ -186,12 +192,34 @@ mod rights {
         let bench = bench();
         for (index, mode) in [0o600, 0o444, 0o640, 0o4755, 0o2755].into_iter().enumerate() {
             set_mode(&bench, "a.scp", mode);
+            set_mode(&bench, "a.dsk", mode);
             bench.passes(&format!("patch a.scp p{index} 0 0 --duration keep --words words.bin --undo u{index}"));
             bench.passes(&format!("replay a.scp calls.txt --out r{index}"));
-            for name in ["p", "u", "r"] {
+            bench.passes(&format!("dsk sector a.dsk 0 0 0 --data s{index}"));
+            for name in ["p", "u", "r", "s"] {
                 assert_eq!(rights(&bench, &format!("{name}{index}")).2, mode & 0o777, "{name}");
             }
         }
+    }
+
+    #[test]
+    fn a_new_file_has_the_usual_mode_where_the_image_is_no_regular_file() {
+        let bench = bench();
+        set_mode(&bench, "a.dsk", 0o604);
+        let script = "umask 027
+            cat a.dsk | \"$0\" dsk sector - 0 0 0 --data piped && \"$0\" dsk sector - 0 0 0 --data regular < a.dsk || exit
+            mkfifo pipe && { cat a.scp > pipe 2> /dev/null & } && \"$0\" patch pipe p 0 0 --duration keep --words words.bin --undo u";
+        let run = shell(&bench, "sh", &[], script);
+        assert_eq!((run.status, run.err.as_str()), (0, ""), "{run:?}");
+        for (name, mode) in [("piped", 0o640), ("regular", 0o604), ("p", 0o640), ("u", 0o640)] {
+            assert_eq!(rights(&bench, name).2, mode, "{name}");
+        }
+        let (input, mut far) = UnixStream::pair().expect("two sockets");
+        far.write_all(&dsk::example::image()).expect("an image sent");
+        drop(far);
+        let run = Run::of(bench.command("dsk sector - 0 0 0 --data sent").stdin(OwnedFd::from(input)).output().expect("the command runs"));
+        bench.put("plain", b"");
+        assert_eq!((run.status, rights(&bench, "sent").2), (0, rights(&bench, "plain").2), "{run:?}");
     }
 
     #[test]

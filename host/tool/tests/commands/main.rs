@@ -2,6 +2,7 @@
 
 mod bench;
 mod destinations;
+mod disk;
 mod list;
 mod patch;
 mod plot;

@@ -4,6 +4,7 @@ use std::fs::OpenOptions;
 use std::process::{Command, Stdio};
 
 use crate::bench::{damaged_a, image, Bench, Run};
+use crate::disk::{self, edited};
 
 /// A run of each command on an image.
 const LINES: [&str; 7] = [
@@ -16,9 +17,20 @@ const LINES: [&str; 7] = [
     "plot FILE 0 0 out.svg --force",
 ];
 
+/// A run of each command on a DSK image.
+const DISK_LINES: [&str; 6] = [
+    "dsk list FILE",
+    "dsk validate FILE",
+    "dsk show FILE",
+    "dsk sector FILE 0 0 0",
+    "dsk sector FILE 0 0 0 --raw",
+    "dsk sector FILE 0 0 0 --data out.bin --force",
+];
+
 /// A bench with all that the lines name.
 fn bench() -> Bench {
     let bench = Bench::with_words();
+    bench.put("a.dsk", &dsk::example::image());
     bench.put("calls.txt", b"validate\nheader\n");
     bench
 }
@@ -28,12 +40,22 @@ fn lines(file: &str) -> impl Iterator<Item = String> + '_ {
     LINES.into_iter().map(move |line| line.replace("FILE", file))
 }
 
+/// The lines for DSK images on a file.
+fn disk_lines(file: &str) -> impl Iterator<Item = String> + '_ {
+    DISK_LINES.into_iter().map(move |line| line.replace("FILE", file))
+}
+
+/// All lines, each on its image.
+fn all_lines() -> impl Iterator<Item = String> {
+    lines("a.scp").chain(disk_lines("a.dsk"))
+}
+
 #[test]
 fn a_file_that_cannot_be_read_gives_3() {
     let bench = bench();
     let names = bench.names();
     for (file, message) in [("none.scp", "none.scp: No such file"), (".", ".: Is a directory"), ("a.scp/b", "a.scp/b: Not a directory")] {
-        for line in lines(file) {
+        for line in lines(file).chain(disk_lines(file)) {
             let run = bench.run(&line);
             assert!(run.status == 3 && (run.out + &run.err).contains(message), "{line}: {}", run.status);
         }
@@ -62,18 +84,36 @@ fn an_image_that_is_refused_gives_1() {
     }
     assert_eq!(bench.get("out.scp"), bench.get("bad.scp"));
     assert!(!bench.path("out.svg").exists());
+    let disk = dsk::example::image();
+    let bad: [(&[u8], &str); 7] = [
+        (b"", "refused 30 "),
+        (b"MV - CPC", "refused 32 "),
+        (&edited(&[(0x31, &[3])]), "refused 31 "),
+        (&disk[..disk.len() - 1], "refused 32 "),
+        (&edited(&[(256, b"t")]), "refused 33 "),
+        (&edited(&[(256 + 0x15, &[30])]), "refused 34 "),
+        (&edited(&[(256 + 0x15, &[3])]), "refused 35 "),
+    ];
+    for (bytes, refusal) in bad {
+        bench.put("bad.dsk", bytes);
+        for line in disk_lines("bad.dsk") {
+            let run = bench.run(&line);
+            assert!(run.status == 1 && (run.out.clone() + &run.err).contains(refusal), "{line}: {run:?}");
+        }
+    }
+    assert!(!bench.path("out.bin").exists());
 }
 
 #[test]
 fn a_wrong_command_line_gives_2() {
     let bench = bench();
     let names = bench.names();
-    for line in lines("a.scp") {
-        let name = line.split(' ').next().unwrap_or_default();
+    for line in all_lines() {
+        let name = line.split(" a.").next().unwrap_or_default();
         let hint = format!("; see \"fluxproof help {name}\"");
         bench.fails(name, 2, &format!("{name}: FILE is missing{hint}"));
         bench.fails(&format!("{line} --frobnicate"), 2, &format!("unknown option \"--frobnicate\"{hint}"));
-        if name != "validate" {
+        if !name.ends_with("validate") {
             bench.fails(&format!("{line} one two"), 2, &format!("{name}: unexpected argument \"one\" after "));
         }
     }
@@ -85,9 +125,14 @@ fn a_closed_pipe_is_no_failure() {
     let bench = bench();
     let words = vec![160; 100_000];
     bench.put("big.scp", &image(1, &[(0, &[(8_000_000, &words)])]));
+    bench.put("big.dsk", &disk::image((40, 2, 256 + 29 * 128), 0, &[[0; 6]; 29]));
+    for line in ["dsk list big.dsk", "dsk show big.dsk"] {
+        assert!(bench.passes(line).len() > 1 << 16, "{line}: it fits in a pipe");
+    }
     bench.put("bad.scp", &damaged_a());
     let help = ["--help", "--version", "help patch"].map(String::from);
-    for line in lines("big.scp").chain(lines("a.scp")).chain(help).chain(["list bad.scp".to_string()]) {
+    let big = lines("big.scp").chain(disk_lines("big.dsk"));
+    for line in big.chain(all_lines()).chain(help).chain(["list bad.scp".to_string()]) {
         let (reader, writer) = std::io::pipe().expect("a pipe");
         drop(reader);
         let run = Run::of(bench.command(&line).stdout(writer).output().expect("the command runs"));
@@ -101,7 +146,7 @@ fn a_full_standard_output_gives_3() {
     let bench = bench();
     bench.put("bad.scp", &damaged_a());
     let others = ["--help", "--version", "help patch", "list bad.scp", "validate none.scp"].map(String::from);
-    for line in lines("a.scp").chain(others) {
+    for line in all_lines().chain(others) {
         let full = OpenOptions::new().write(true).open("/dev/full").expect("the full device");
         let run = Run::of(bench.command(&line).stdout(full).output().expect("the command runs"));
         let message = "fluxproof: standard output: No space left on device (os error 28)\n";
@@ -114,7 +159,7 @@ fn a_full_standard_output_gives_3() {
 fn a_stream_that_cannot_be_used_gives_3() {
     let bench = bench();
     let message = ": Bad file descriptor (os error 9)\n";
-    for line in lines("a.scp") {
+    for line in all_lines() {
         let reading = OpenOptions::new().read(true).open("/dev/null").expect("the empty device");
         let run = Run::of(bench.command(&line).stdout(reading).output().expect("the command runs"));
         assert_eq!((run.status, run.err), (3, format!("fluxproof: standard output{message}")), "{line}");
@@ -126,7 +171,7 @@ fn a_stream_that_cannot_be_used_gives_3() {
 
 /// Runs a line of the shell in the folder, in which "$0" is the command.
 #[cfg(unix)]
-fn shell(bench: &Bench, program: &str, options: &[&str], script: &str) -> Run {
+pub fn shell(bench: &Bench, program: &str, options: &[&str], script: &str) -> Run {
     let mut shell = Command::new(program);
     shell.args(options).args(["-c", script, env!("CARGO_BIN_EXE_fluxproof")]).current_dir(&bench.folder);
     Run::of(shell.stdin(Stdio::null()).output().expect("a shell"))
@@ -175,15 +220,17 @@ fn a_full_disk_changes_nothing() {
         \"$0\" patch a.scp full/old 0 0 --duration 1 --words words.bin --force; echo $?
         \"$0\" replay a.scp calls.txt --out full/old --force > /dev/null; echo $?
         \"$0\" plot a.scp 0 0 full/old --force; echo $?
+        \"$0\" dsk sector a.dsk 0 0 0 --data full/old --force; echo $?
+        \"$0\" dsk sector a.dsk 0 0 0 --data full/new; echo $?
         \"$0\" patch a.scp full/new 0 0 --duration 1 --words words.bin --undo undo.txt; echo $?
         \"$0\" patch a.scp new.scp 0 0 --duration 1 --words words.bin --undo full/undo.txt; echo $?
         ls -A full; cat full/old";
     let run = shell(&bench, "unshare", &["-rm", "sh"], script);
     // Where mounting is not allowed, the limit on the size of files is all that is tested.
     if run.status == 0 {
-        assert_eq!(run.out, "3\n3\n3\n3\n3\nold\nprecious", "{run:?}");
-        assert_eq!(run.err.matches(": cannot be written: No space left on device").count(), 5, "{run:?}");
-        assert_eq!(bench.names(), ["a.scp", "calls.txt", "full", "words.bin"]);
+        assert_eq!(run.out, "3\n3\n3\n3\n3\n3\n3\nold\nprecious", "{run:?}");
+        assert_eq!(run.err.matches(": cannot be written: No space left on device").count(), 7, "{run:?}");
+        assert_eq!(bench.names(), ["a.dsk", "a.scp", "calls.txt", "full", "words.bin"]);
     } else {
         println!("no disk can be mounted: {run:?}");
     }

@@ -3,7 +3,8 @@
 use crate::bench::{Bench, Run};
 
 /// All commands.
-const COMMANDS: [&str; 7] = ["list", "validate", "show", "read", "patch", "replay", "plot"];
+const COMMANDS: [&str; 11] =
+    ["list", "validate", "show", "read", "patch", "replay", "plot", "dsk list", "dsk validate", "dsk show", "dsk sector"];
 
 #[test]
 fn help_is_there_for_all() {
@@ -25,6 +26,22 @@ fn help_is_there_for_all() {
 }
 
 #[test]
+fn help_is_there_for_all_of_a_kind() {
+    let bench = Bench::new();
+    let whole = bench.passes("help dsk");
+    for line in ["dsk --help", "dsk -h", "dsk help", "dsk help help", "help dsk help", "help dsk --help"] {
+        assert_eq!(bench.passes(line), whole, "{line}");
+    }
+    for command in COMMANDS.iter().filter_map(|command| command.strip_prefix("dsk ")) {
+        assert!(whole.contains(&format!("\n  {command} ")), "{command}");
+        assert_eq!(bench.passes(&format!("dsk help {command}")), bench.passes(&format!("help dsk {command}")));
+    }
+    for number in dsk::Reason::ALL.into_iter().filter(|reason| *reason != dsk::Reason::Places) {
+        assert!(whole.contains(&format!("\n  {} {number:?} ", number.number())), "{number:?}");
+    }
+}
+
+#[test]
 fn the_version_names_the_judge() {
     let bench = Bench::new();
     let said = bench.passes("--version");
@@ -36,7 +53,9 @@ fn the_version_names_the_judge() {
     let digits = |text: &str, count: usize| text.len() == count && text.bytes().all(|digit| digit.is_ascii_hexdigit());
     let commit = lines[1].1.strip_suffix(", with changes").unwrap_or(lines[1].1);
     assert!(commit == "unknown" || digits(commit, 40), "{said}");
-    assert!(lines[3].1 == "unknown" || digits(lines[3].1, 16), "{said}");
+    // One for both archives, or where they differ one for each.
+    let logics: Vec<&str> = lines[3].1.split(", ").map(|logic| logic.trim_end_matches(" (SCP)").trim_end_matches(" (DSK)")).collect();
+    assert!(logics.len() <= 2 && logics.iter().all(|logic| *logic == "unknown" || digits(logic, 16)), "{said}");
 }
 
 #[test]
@@ -47,6 +66,15 @@ fn wrong_command_lines_name_the_help() {
     bench.fails("frobnicate", 2, "unknown command \"frobnicate\"; see \"fluxproof --help\"");
     bench.fails("--frobnicate", 2, "unknown option \"--frobnicate\"; see \"fluxproof --help\"");
     bench.fails("help frobnicate", 2, "unknown command \"frobnicate\"");
+    bench.fails("help list show", 2, "help takes one command; see \"fluxproof --help\"");
+    bench.fails("dks list a.scp", 2, "unknown command \"dks\" (did you mean \"dsk\"?); see \"fluxproof --help\"");
+    bench.fails("dsk", 2, "dsk: no command is given; see \"fluxproof help dsk\"");
+    bench.fails("dsk lst a.dsk", 2, "dsk: unknown command \"lst\" (did you mean \"list\"?); see \"fluxproof help dsk\"");
+    bench.fails("dsk read a.dsk", 2, "dsk: unknown command \"read\"; see \"fluxproof help dsk\"");
+    bench.fails("dsk dsk list a.dsk", 2, "dsk: unknown command \"dsk\"; see \"fluxproof help dsk\"");
+    bench.fails("dsk --version", 2, "dsk: unknown option \"--version\"; see \"fluxproof help dsk\"");
+    bench.fails("help dsk read", 2, "dsk: unknown command \"read\"; see \"fluxproof help dsk\"");
+    bench.fails("help dsk list show", 2, "dsk: help takes one command; see \"fluxproof help dsk\"");
     bench.fails("read a.scp 0 0 --cvs", 2, "read: unknown option \"--cvs\" (did you mean \"--csv\"?); see \"fluxproof help read\"");
     bench.fails("list a.scp b.scp", 2, "list: unexpected argument \"b.scp\" after FILE; see \"fluxproof help list\"");
     bench.fails("read a.scp 0 0 --us --us", 2, "--us is given twice");
