@@ -3,11 +3,14 @@
 //! Each round times the one and then the other on warmed buffers. A ratio is the library's time by plain Rust's, round by round: the
 //! median is reported, with the tenth and the ninetieth of a hundred as spread. Times themselves are not reported: machines differ.
 //!
-//! A second table has the library beside itself: how the time for a revolution of the image depends on how many tracks and revolutions there are.
+//! Two more tables have the library beside itself: how the time for a revolution of an SCP image depends on how many tracks and revolutions
+//! there are, and the time for a track block of a DSK image on how many tracks and sides.
 
 #![forbid(unsafe_code)]
 
+mod disks;
 mod plain;
+mod plain_dsk;
 
 use scp::raw;
 use scp_compare::image::flux_bytes;
@@ -28,8 +31,12 @@ fn main() {
     reading(rounds);
     writing(rounds);
     rewriting(rounds);
+    disks::validate(rounds);
+    disks::question(rounds);
     say_columns("library's time for each revolution, beside 168 tracks of 255");
     growth(rounds);
+    say_columns("library's time for each track block, beside 255 tracks of 2 sides");
+    disks::growth(rounds);
 }
 
 /// The head of a table of ratios.
