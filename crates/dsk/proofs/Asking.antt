@@ -2,13 +2,13 @@
 use Prim.Native.Nat.{ℕ, _<_}
 use mathlib.Core.Path.{_≡_, refl, sym, ap, _∙_}
 use mathlib.Core.List.{List}
-use mathlib.Core.Bool.{Bool, true, false, _||_}
+use mathlib.Core.Bool.{true, false, _||_}
 use lib.Dec.{leb}
 use borrow.Author.Tests.{eq-eqb, ne-eqb, lt-leb, leb-false}
 use Rattle.refusals.specs.declared.Refusal.{Refusal}
-use Rattle.refusals.specs.Refusals.{none, refusal, refuseIf, firstOf}
+use Rattle.refusals.specs.Refusals.{none, refusal, refuseIf}
 use Rattle.refusals.proofs.Chain.{first-here, first-next}
-use Rattle.refusals.proofs.Finding.{neither, both-clear, not-refused}
+use Rattle.refusals.proofs.Finding.{neither, both-clear, not-refused, alike-end, alike-refuse, alike-first}
 use Rattle.dsk_fields.specs.Fields.{tracks, sides}
 use Rattle.dsk_check.specs.Faults.{dskFault}
 use Rattle.dsk.specs.Questions.{blockThen, blockQuestion}
@@ -66,14 +66,8 @@ module _ (b : List ℕ) (t s : ℕ) where
   pub block-passes : BlockThere → blockQuestion b t s .number ≡ 0
   block-passes h = ap (λ (x : Refusal). x .number) (sym (then-rest none h))
 
--- what refuses before the end of a chain refuses whatever its end is
-alike : (x y : Bool) (f g rest : Refusal) → (refuseIf x f (refuseIf y g none) .number ≡ 0 → ⊥)
-    → refuseIf x f (refuseIf y g none) ≡ refuseIf x f (refuseIf y g rest)
-unfolding refuseIf
-alike true y f g rest n = refl
-alike false true f g rest n = refl
-alike false false f g rest n = absurd (n refl)
-
+-- a block that is refused is refused whatever comes after
 pub refused-alike : (b : List ℕ) (t s : ℕ) (rest : Refusal) → (blockQuestion b t s .number ≡ 0 → ⊥) → blockQuestion b t s ≡ blockThen b t s rest
-unfolding blockThen firstOf
-refused-alike b t s rest n = alike _ _ _ _ rest n
+unfolding blockThen
+refused-alike b t s rest =
+    alike-first (dskFault b) _ _ (alike-refuse (leb (tracks b) t || leb (sides b) s) (refusal 13 0) none rest (alike-end rest))

@@ -73,7 +73,7 @@ fn larger_from(image: &[u8], at: usize, first: usize, n: usize, code: u8) -> boo
     false
 }
 
-// Whether one of the first n sectors of the block has a larger size code than it. Four sectors are tested in a turn.
+// Whether one of the first n sectors of the block has a larger size code than it. Four are tested at a time.
 fn larger_code(image: &[u8], at: usize, n: usize, code: u8) -> bool
     requires { ⌜ (at + infoSize ≤ length (now image)) × (n ≤ 29) × (code ≡ sizeCode (now image) at) ⌝ }
     ensures { λ r. ⌜ r ≡ anyFrom (largerCode (now (image .entry)) at) 0 n ⌝ }

@@ -110,6 +110,23 @@ pub clear-both : (f rest : Refusal) → f .number ≡ 0 → rest .number ≡ 0 �
 unfolding firstOf refuseIf
 clear-both f rest e z = rw (eq-eqb (f .number) 0 e) z
 
+-- ---- what refuses before the end of a chain refuses whatever its end is
+
+abbrev pub Alike : Refusal → Refusal → Type 0
+Alike x y = (x .number ≡ 0 → ⊥) → x ≡ y
+
+pub alike-end : (y : Refusal) → Alike none y
+alike-end y = λ n. absurd (n refl)
+
+pub alike-refuse : (t : Bool) (f x y : Refusal) → Alike x y → Alike (refuseIf t f x) (refuseIf t f y)
+unfolding refuseIf
+alike-refuse true f x y h = λ n. refl
+alike-refuse false f x y h = h
+
+pub alike-first : (f x y : Refusal) → Alike x y → Alike (firstOf f x) (firstOf f y)
+unfolding firstOf
+alike-first f x y h = alike-refuse (not (eqb (f .number) 0)) f x y h
+
 -- ---- no index refuses
 
 pub from-clear : (f : ℕ → Refusal) (i n : ℕ) → firstFrom f i n .number ≡ 0 → Each (λ j. f j .number ≡ 0) i n

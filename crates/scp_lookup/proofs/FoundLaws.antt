@@ -5,15 +5,16 @@ use mathlib.Core.List.{List}
 use mathlib.Core.Bool.{Bool, true, false, cond}
 use native.Mathlib.Omega.{arith}
 use lib.ListN.{length}
-use lib.Dec.{leb, ltb}
+use lib.Dec.{eqb, leb, ltb}
 use borrow.Author.Tests.{eq-eqb, ne-eqb, eqb-true, eqb-false, lt-leb, leb-false, ltb-true}
 use Rattle.refusals.specs.declared.Refusal.{Refusal}
-use Rattle.refusals.specs.Refusals.{none, passes, refuseIf, firstOf}
-use Rattle.scp_fields.specs.Header.{revolutions, trackEntry}
-use Rattle.refusals.proofs.Finding.{is-refusal, not-refused}
+use Rattle.refusals.specs.Refusals.{none, refusal, passes, refuseIf}
+use Rattle.scp_fields.specs.Header.{trackSlots, revolutions, trackEntry}
+use Rattle.refusals.proofs.Finding.{is-refusal, not-refused, alike-end, alike-refuse, alike-first}
 use Rattle.scp_tracks.specs.Revolutions.{dataOf, revolutionOf, ofPresence, revolutionFault}
 use Rattle.scp_tracks.specs.declared.Revolution.the-variants.{Absent, Present}
 use Rattle.scp_tracks.specs.declared.RevolutionData.{RevolutionData}
+use Rattle.scp_open.specs.Opening.{openFault}
 use Rattle.scp_open.proofs.Opens.{opens}
 use Rattle.scp_lookup.specs.Questions.{trackThen, trackQuestion, revolutionQuestion}
 use Rattle.scp_lookup.specs.Lookups.{foundTrack, foundRevolution}
@@ -63,18 +64,12 @@ module _ (b : List ℕ) (t : ℕ) where
           let e : f ≡ trackQuestion b t = cc in
           record { refuses = e; number = λ z. eqb-false (trackQuestion b t .number) 0 q (ap (λ (x : Refusal). x .number) (sym e) ∙ z) }
 
--- what refuses before the end of a chain refuses whatever its end is
-alike : (x y z : Bool) (f g rest : Refusal) → (refuseIf x f (refuseIf y g (refuseIf z g none)) .number ≡ 0 → ⊥)
-    → refuseIf x f (refuseIf y g (refuseIf z g none)) ≡ refuseIf x f (refuseIf y g (refuseIf z g rest))
-unfolding refuseIf
-alike true y z f g rest n = refl
-alike false true z f g rest n = refl
-alike false false true f g rest n = refl
-alike false false false f g rest n = absurd (n refl)
-
+-- a track that is refused is refused whatever comes after
 refused-alike : (b : List ℕ) (t : ℕ) (rest : Refusal) → (trackQuestion b t .number ≡ 0 → ⊥) → trackQuestion b t ≡ trackThen b t rest
-unfolding trackThen firstOf
-refused-alike b t rest n = alike _ _ _ _ _ rest n
+unfolding trackThen
+refused-alike b t rest =
+    alike-first (openFault b) _ _
+    (alike-refuse (leb trackSlots t) (refusal 13 0) _ _ (alike-refuse (eqb (trackEntry b t) 0) (refusal 13 0) none rest (alike-end rest)))
 
 -- ---- a revolution
 
