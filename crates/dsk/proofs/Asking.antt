@@ -1,10 +1,10 @@
--- The chain of refusals of a call: 30 to 35, then 13 for the track and the side, then what comes after; and an answer, unless it is refused.
+-- The chain of refusals of a call: 30 to 35, then 13 for the track and the side, then what comes after.
 use Prim.Native.Nat.{ℕ, _<_}
 use mathlib.Core.Path.{_≡_, refl, sym, ap, _∙_}
 use mathlib.Core.List.{List}
 use mathlib.Core.Bool.{true, false, _||_}
 use lib.Dec.{leb}
-use borrow.Author.Tests.{eq-eqb, ne-eqb, lt-leb, leb-false}
+use borrow.Author.Tests.{lt-leb, leb-false}
 use Rattle.refusals.specs.declared.Refusal.{Refusal}
 use Rattle.refusals.specs.Refusals.{none, refusal, refuseIf}
 use Rattle.refusals.proofs.Chain.{first-here, first-next}
@@ -12,17 +12,6 @@ use Rattle.refusals.proofs.Finding.{neither, both-clear, not-refused, alike-end
 use Rattle.dsk_fields.specs.Fields.{tracks, sides}
 use Rattle.dsk_check.specs.Faults.{dskFault}
 use Rattle.dsk.specs.Questions.{blockThen, blockQuestion}
-use Rattle.dsk.specs.Answers.{unless}
-
--- ---- an answer, unless it is refused
-
-module _ {A : Type 0} (q : Refusal) (found : A) (refused : Refusal → A) where
-  pub unless-refused : {f : Refusal} → f ≡ q → (f .number ≡ 0 → ⊥) → refused f ≡ unless q found refused
-  unless-refused {f} e n =
-      ap refused e ∙ sym (simp (ne-eqb (q .number) 0 (λ z. n (ap (λ (x : Refusal). x .number) e ∙ z))))
-
-  pub unless-found : {x : A} → q .number ≡ 0 → x ≡ found → x ≡ unless q found refused
-  unless-found z e = e ∙ sym (simp (eq-eqb (q .number) 0 z))
 
 -- ---- what comes after the track and the side
 

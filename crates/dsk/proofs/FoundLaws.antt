@@ -11,19 +11,20 @@ use borrow.Author.Tests.{eq-eqb, eqb-true, eqb-false, lt-leb, le-leb, leb-false}
 use Rattle.refusals.specs.declared.Refusal.{Refusal}
 use Rattle.refusals.specs.Refusals.{none, refusal, passes, refuseIf}
 use Rattle.refusals.proofs.Finding.{not-refused, is-refusal}
+use Rattle.refusals.proofs.Answers.{unless-refused}
 use Rattle.dsk_fields.specs.Fields.{infoSize, trackSize, blockOf, sectors, dataSize, dataAt}
 use Rattle.dsk_check.specs.Validity.{Valid}
 use Rattle.dsk_check.specs.Faults.{dskFault}
 use Rattle.dsk_check.proofs.Accepting.{obeys, accepts, block-within, data-within}
 use Rattle.dsk.specs.Questions.{blockQuestion, sectorQuestion}
-use Rattle.dsk.specs.Answers.{unless, validateAnswer, foundBlock, sectorInfo, sectorAnswer, partOf, startOf}
+use Rattle.dsk.specs.Answers.{validateAnswer, foundBlock, sectorInfo, sectorAnswer, partOf, startOf}
 use Rattle.dsk.specs.Theorems.{AcceptsExactly, DataHolds, DataWhole}
 use Rattle.dsk.specs.declared.Validated.the-variants as validated
 use Rattle.dsk.specs.declared.BlockPlace.the-variants as block-place
 use Rattle.dsk.specs.declared.SectorInfo.{SectorInfo}
 use Rattle.dsk.specs.declared.SectorAnswer.{SectorAnswer}
 use Rattle.dsk.specs.declared.SectorAnswer.the-variants as sector-answer
-use Rattle.dsk.proofs.Asking.{BlockThere, then-rest, there, refused-alike, unless-refused}
+use Rattle.dsk.proofs.Asking.{BlockThere, then-rest, there, refused-alike}
 
 -- ---- a block
 
@@ -153,7 +154,7 @@ module _ (b : List ℕ) (t s k : ℕ) where
       let size = ap (λ (x : SectorInfo). x .length) (h .same) in
       omega arith
 
-  sector-found : SectorThere → sectorAnswer b t s k ≡ sector-answer.Found (sectorInfo b (blockOf b t s) k)
+  pub sector-found : SectorThere → sectorAnswer b t s k ≡ sector-answer.Found (sectorInfo b (blockOf b t s) k)
   unfolding sectorAnswer
   sector-found h = simp (eq-eqb (sectorQuestion b t s k .number) 0 (sector-passes h))
 

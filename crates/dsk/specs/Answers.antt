@@ -1,10 +1,8 @@
 -- What each call on a DSK image answers (DK-12 to DK-15): what is found, or what refuses it.
 use Prim.Native.Nat.{ℕ}
 use mathlib.Core.List.{List, []}
-use mathlib.Core.Bool.{cond}
 use lib.ListN.{take, drop}
-use Rattle.refusals.specs.declared.Refusal.{Refusal}
-use Rattle.refusals.specs.Refusals.{passes}
+use Rattle.refusals.specs.Refusals.{unless}
 use Rattle.dsk_fields.specs.Fields.{tracks, sides, trackSize, blockOf, sizeCode, sectors, gapLength, fillerByte, entryTrack, entrySide, entryId, entryCode, entryStatus1, entryStatus2, dataSize, dataAt}
 use Rattle.dsk_check.specs.Faults.{dskFault}
 use Rattle.dsk.specs.Questions.{blockQuestion, sectorQuestion}
@@ -21,10 +19,6 @@ use Rattle.dsk.specs.declared.BlockAnswer.the-variants as block-answer
 use Rattle.dsk.specs.declared.SectorInfo.{SectorInfo}
 use Rattle.dsk.specs.declared.SectorAnswer.{SectorAnswer}
 use Rattle.dsk.specs.declared.SectorAnswer.the-variants as sector-answer
-
--- DK-11: what is found, unless the question f refuses.
-abbrev pub unless : {A : Type 0} → Refusal → A → (Refusal → A) → A
-unless f found refused = cond (passes f) found (refused f)
 
 -- ---- the image
 

@@ -1,3 +1,4 @@
 pub mod Chain
 pub mod Loops
 pub mod Finding
+pub mod Answers

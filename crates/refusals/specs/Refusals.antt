@@ -1,6 +1,6 @@
 -- Refusals and their order (RO-1, RO-2). A refusal is a number and a position; number 0 is none.
 use Prim.Native.Nat.{ℕ}
-use mathlib.Core.Bool.{Bool, true, false, not}
+use mathlib.Core.Bool.{Bool, true, false, not, cond}
 use lib.Dec.{eqb}
 use Rattle.refusals.specs.declared.Refusal.{Refusal}
 
@@ -24,3 +24,7 @@ refuseIf false f rest = rest
 -- RO-2: the first of two findings: f where it refuses, else what comes after.
 unfoldable pub firstOf : Refusal → Refusal → Refusal
 firstOf f rest = refuseIf (not (passes f)) f rest
+
+-- RO-1: what is found, unless f refuses.
+abbrev pub unless : {A : Type 0} → Refusal → A → (Refusal → A) → A
+unless f found refused = cond (passes f) found (refused f)

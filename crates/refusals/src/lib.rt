@@ -2,7 +2,7 @@
 ghost use mathlib.Core.Path.{_≡_};
 ghost use Rattle.refusals.specs.Refusals.{none, refusal};
 
-// The table of refusals, by number (R-1 to R-18, R-30 to R-35). Each number has one meaning: 13 and 14 say that what was
+// The table of refusals, by number (R-1 to R-18, R-30 to R-35, R-41). Each number has one meaning: 13 and 14 say that what was
 // asked for is not there, the track (of a DSK image also the side), and the revolution or the sector.
 pub const SIZE: u32 = 1;
 
@@ -54,6 +54,8 @@ pub const DSK_BLOCK: u32 = 33;
 pub const DSK_SECTORS: u32 = 34;
 
 pub const DSK_DATA: u32 = 35;
+
+pub const DSK_LAYOUT: u32 = 41;
 
 // A number of the table and a position; number 0 is no refusal (RO-1).
 pub struct Refusal {

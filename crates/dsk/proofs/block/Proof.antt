@@ -1,8 +1,9 @@
 -- A block that is found lies in the image, and its fields are those read; one that is refused is refused by the question.
 use mathlib.Core.Path.{sym, ap, _∙_}
+use Rattle.refusals.proofs.Answers.{unless-refused, unless-found}
 use Rattle.dsk.specs.Answers.{trackBlock, blockAnswer}
 use Rattle.dsk.specs.declared.BlockAnswer.the-variants as block-answer
-use Rattle.dsk.proofs.Asking.{unless-refused, unless-found, block-passes}
+use Rattle.dsk.proofs.Asking.{block-passes}
 use Rattle.dsk.proofs.FoundLaws.{found-at, found-within, not-found}
 use borrow.Author.Needs.{needs}
 use Rattle.dsk.proofs.block.Statement.{statement}

@@ -7,11 +7,12 @@ use lib.Dec.{leb}
 use borrow.Author.Tests.{leb-false}
 use Rattle.refusals.specs.declared.Refusal.{Refusal}
 use Rattle.refusals.proofs.Finding.{neither, is-refusal}
+use Rattle.refusals.proofs.Answers.{unless-refused, unless-found}
 use Rattle.dsk_fields.specs.Fields.{tracks as trackCount, sides as sideCount}
 use Rattle.dsk_fields.proofs.Strides.{bytes-product, sizes-product, at-block}
 use Rattle.dsk.specs.Answers.{foundBlock}
 use Rattle.dsk.specs.declared.BlockPlace.the-variants as block-place
-use Rattle.dsk.proofs.Asking.{unless-refused, unless-found, then-check, then-absent, both-there, block-passes}
+use Rattle.dsk.proofs.Asking.{then-check, then-absent, both-there, block-passes}
 use borrow.Author.Needs.{needs}
 use Rattle.dsk.proofs.find_block.Statement.{statement}
 use Rattle.dsk.proofs.find_block.Tie as tie

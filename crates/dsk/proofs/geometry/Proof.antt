@@ -1,9 +1,9 @@
 -- The fields of an image that is accepted are those read.
 use mathlib.Core.Path.{sym, ap, _∙_}
 use Rattle.refusals.specs.declared.Refusal.{Refusal}
+use Rattle.refusals.proofs.Answers.{unless-refused, unless-found}
 use Rattle.dsk.specs.Answers.{geometryAnswer}
 use Rattle.dsk.specs.declared.GeometryAnswer.the-variants as geometry-answer
-use Rattle.dsk.proofs.Asking.{unless-refused, unless-found}
 use borrow.Author.Needs.{needs}
 use Rattle.dsk.proofs.geometry.Statement.{statement}
 use Rattle.dsk.proofs.geometry.Tie as tie

@@ -2,10 +2,10 @@
 use Prim.Native.Nat.{ℕ, _<_, _≤_}
 use mathlib.Core.Path.{sym, ap, _∙_}
 use native.Mathlib.Omega.{arith}
+use Rattle.refusals.proofs.Answers.{unless-found}
 use Rattle.dsk_fields.specs.Fields.{blockOf, sectors as sectorCount}
 use Rattle.dsk.specs.Answers.{sectorInfo, sectorAnswer}
 use Rattle.dsk.specs.declared.SectorAnswer.the-variants as sector-answer
-use Rattle.dsk.proofs.Asking.{unless-found}
 use Rattle.dsk.proofs.FoundLaws.{found-at, found-within, not-found, no-block, no-sector, SectorThere, sector-passes, few, data-starts}
 use borrow.Author.Needs.{needs}
 use Rattle.dsk.proofs.sector.Statement.{statement}

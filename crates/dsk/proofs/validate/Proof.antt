@@ -1,9 +1,9 @@
 -- The image is refused by what the check finds, or accepted.
 use mathlib.Core.Path.{refl, sym, ap, _∙_}
 use Rattle.refusals.specs.declared.Refusal.{Refusal}
+use Rattle.refusals.proofs.Answers.{unless-refused, unless-found}
 use Rattle.dsk.specs.Answers.{validateAnswer}
 use Rattle.dsk.specs.declared.Validated.the-variants as validated
-use Rattle.dsk.proofs.Asking.{unless-refused, unless-found}
 use borrow.Author.Needs.{needs}
 use Rattle.dsk.proofs.validate.Statement.{statement}
 use Rattle.dsk.proofs.validate.Tie as tie
