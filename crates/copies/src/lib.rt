@@ -1,5 +1,6 @@
-// Copying a lent list into a lent buffer, for each width: all of it, or nothing where it does not fit.
+// Copying a lent list into a lent buffer, for each width, or zeros: all of it, or nothing where it does not fit.
 ghost use mathlib.Core.Path.{_≡_};
+ghost use lib.ListN.{replicate};
 ghost use Rattle.copies.specs.Copying.{fitsAt, copiedAt};
 
 // Copies bytes to `at`, and says whether they fit.
@@ -58,6 +59,25 @@ pub fn floats(out: &mut [f64], at: usize, values: &[f64]) -> bool
     while j < n {
         out[at + j] = values[j];
         j += 1;
+    }
+    true
+}
+
+// Puts `count` bytes of 0 to `at`, and says whether they fit.
+pub fn zeros(out: &mut [u8], at: usize, count: usize) -> bool
+    ensures { λ r. ⌜ r ≡ fitsAt (now (out .entry)) at (replicate count 0) ⌝ }
+    ensures { λ _. ⌜ now (out .exit) ≡ copiedAt (now (out .entry)) at (replicate count 0) ⌝ }
+{
+    if out.len() < count {
+        return false;
+    }
+    if out.len() - count < at {
+        return false;
+    }
+    let mut k = 0;
+    while k < count {
+        out[at + k] = 0;
+        k += 1;
     }
     true
 }
