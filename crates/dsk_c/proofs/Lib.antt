@@ -1,1 +1,2 @@
 pub mod UncutCodes
+pub mod LentImage

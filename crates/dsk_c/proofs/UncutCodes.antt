@@ -1,4 +1,5 @@
--- No refusal of a call on a DSK image is cut: each number is below 256, and each position 0 or the index of a block, below 65,536.
+-- No refusal of a call on a DSK image, or of writing one, is cut: each number is below 256, and each position 0 or the index of a block,
+-- below 65,536.
 use Prim.Native.Nat.{ℕ, _<_}
 use mathlib.Core.List.{List}
 use native.Mathlib.Omega.{arith}
@@ -12,7 +13,8 @@ use Rattle.dsk_header.specs.HeaderFault.{headFault}
 use Rattle.dsk_check.specs.Faults.{blockFaultAt, blockFault, trackFault, blocksFault, dskFault}
 use Rattle.dsk_fields.proofs.Strides.{bytes-product}
 use Rattle.dsk.specs.Questions.{blockThen}
-use Rattle.dsk_c.specs.Theorems.{Whole, Uncut}
+use Rattle.dsk_write.specs.Writing.{writeFault}
+use Rattle.dsk_c.specs.Theorems.{Whole, Uncut, WriteUncut}
 
 module _ (b : List ℕ) (octets : Octets b) where
   index-small : (t s : ℕ) → t < tracks b → s < sides b → blockIndex b t s < 65_536
@@ -62,3 +64,7 @@ uncut b octets t s k =
       block = whole _ (asked-small b octets t s none small-none);
       sector = whole _ (asked-small b octets t s _ (small-if _ none 14 (omega arith) small-none));
     }
+
+pub write-uncut : WriteUncut
+unfolding writeFault
+write-uncut c l d places = whole _ (small-if _ _ 41 (omega arith) (small-if _ none 15 (omega arith) small-none))

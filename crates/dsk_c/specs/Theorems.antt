@@ -7,6 +7,8 @@ use Rattle.refusals.specs.declared.Refusal.{Refusal}
 use Rattle.boundary.specs.Boundary.{packed}
 use Rattle.dsk_check.specs.Faults.{dskFault}
 use Rattle.dsk.specs.Questions.{blockQuestion, sectorQuestion}
+use Rattle.dsk_layout.specs.declared.Layout.{Layout}
+use Rattle.dsk_write.specs.Writing.{writeFault}
 
 -- C-2: the code of a refusal is its number + 256 x its position.
 abbrev pub Whole : Refusal → Type 0
@@ -22,3 +24,7 @@ pub record WholeCodes (b : List ℕ) (t s k : ℕ) : Type 0 where
 -- C-2: so it is with every image and every argument.
 abbrev pub Uncut : Type 0
 Uncut = (b : List ℕ) → Octets b → (t s k : ℕ) → WholeCodes b t s k
+
+-- C-2: nor is a refusal of writing, whatever is to be written.
+abbrev pub WriteUncut : Type 0
+WriteUncut = (c : List ℕ) (l : Layout) (d : List ℕ) (places : ℕ) → Whole (writeFault c l d places)

@@ -1,6 +1,9 @@
 -- The values of what a DSK image answers, as they pass to C (include/dsk.h).
 use Prim.Native.Nat.{ℕ}
 use mathlib.Core.List.{List, [], _∷_}
+use mathlib.Core.Bool.{cond}
+use lib.Dec.{ltb}
+use Rattle.refusals.specs.Refusals.{refusal}
 use Rattle.boundary.specs.Boundary.{Given, refuses, gives}
 use Rattle.dsk.specs.declared.DiskGeometry.{DiskGeometry}
 use Rattle.dsk.specs.declared.TrackBlock.{TrackBlock}
@@ -13,6 +16,10 @@ use Rattle.dsk.specs.declared.BlockAnswer.{BlockAnswer}
 use Rattle.dsk.specs.declared.BlockAnswer.the-variants as block-answer
 use Rattle.dsk.specs.declared.SectorAnswer.{SectorAnswer}
 use Rattle.dsk.specs.declared.SectorAnswer.the-variants as sector-answer
+use Rattle.dsk_layout.specs.declared.Layout.{Layout}
+use Rattle.dsk_write.specs.Writing.{writeAnswer}
+use Rattle.dsk_write.specs.declared.Written.{Written}
+use Rattle.dsk_write.specs.declared.Written.the-variants as written
 
 -- C-16: validating gives no values.
 abbrev pub ofValidated : Validated → Given ℕ
@@ -45,3 +52,17 @@ sectorNumbers d = d .cylinder ∷ d .head ∷ d .id ∷ d .code ∷ d .status1 �
 abbrev pub ofSector : SectorAnswer → Given ℕ
 ofSector (sector-answer.Found d) = gives (sectorNumbers d)
 ofSector (sector-answer.Refused r) = refuses (r .number) (r .position)
+
+-- C-20: what writing gives: the length of the image.
+abbrev pub ofWritten : Written → Given ℕ
+ofWritten (written.Length n) = gives (n ∷ [])
+ofWritten (written.Refused r) = refuses (r .number) (r .position)
+
+-- C-20: 15 where `out`, of so many places, has none for the length; every other refusal comes before it.
+abbrev pub withLength : ℕ → Written → Written
+withLength places (written.Length n) = cond (ltb places 1) (written.Refused (refusal 15 0)) (written.Length n)
+withLength places (written.Refused r) = written.Refused r
+
+-- C-20: what `dsk_write` answers where `image` has so many places, and `out` so many.
+abbrev pub writeTo : List ℕ → Layout → List ℕ → ℕ → ℕ → Written
+writeTo c l d imagePlaces outPlaces = withLength outPlaces (writeAnswer c l d imagePlaces)

@@ -4,11 +4,15 @@ ghost use mathlib.Core.Path.{_≡_};
 ghost use lib.ListN.{length};
 ghost use Rattle.boundary.specs.Boundary.{codeOf, within, outAfter};
 ghost use Rattle.dsk.specs.Answers.{validateAnswer, geometryAnswer, blockAnswer, sectorAnswer};
-ghost use Rattle.dsk_c.specs.Values.{ofValidated, ofGeometry, ofBlock, ofSector};
+ghost use Rattle.dsk_layout.specs.Layouts.{layoutOf};
+ghost use Rattle.dsk_write.specs.Images.{imageBytes};
+ghost use Rattle.dsk_write.specs.Writing.{bufferAfter};
+ghost use Rattle.dsk_c.specs.Values.{ofValidated, ofGeometry, ofBlock, ofSector, ofWritten, writeTo};
 use dsk::BlockAnswer;
 use dsk::GeometryAnswer;
 use dsk::SectorAnswer;
 use dsk::Validated;
+use dsk_write::Written;
 
 // Validates the image: refusals 30 to 35.
 #[no_mangle]
@@ -87,5 +91,44 @@ pub extern "C" fn dsk_sector(
             boundary::give(out, &row)
         }
         SectorAnswer::Refused(r) => boundary::code(r),
+    }
+}
+
+// Writes an image to the start of `image`; its length to `out`.
+#[no_mangle]
+pub extern "C" fn dsk_write(
+    creator: &[u8],
+    tracks: u32,
+    sides: u32,
+    sectors: u32,
+    code: u32,
+    gap: u32,
+    filler: u32,
+    content: &[u8],
+    image: &mut [u8],
+    out: &mut [u64],
+) -> u64
+    ensures { λ r. ⌜ r ≡ codeOf (ofWritten (writeTo (now (creator .entry)) (layoutOf tracks sides sectors code gap filler) (now (content .entry)) (length (now (image .entry))) (length (now (out .entry))))) ⌝ }
+    ensures { λ _. ⌜ now (image .exit) ≡ bufferAfter (now (image .entry)) (imageBytes (now (creator .entry)) (layoutOf tracks sides sectors code gap filler) (now (content .entry))) (writeTo (now (creator .entry)) (layoutOf tracks sides sectors code gap filler) (now (content .entry)) (length (now (image .entry))) (length (now (out .entry)))) ⌝ }
+    ensures { λ _. ⌜ now (out .exit) ≡ outAfter (now (out .entry)) (ofWritten (writeTo (now (creator .entry)) (layoutOf tracks sides sectors code gap filler) (now (content .entry)) (length (now (image .entry))) (length (now (out .entry))))) ⌝ }
+{
+    let places = boundary::lent(image.len(), out.len(), 1);
+    let found = dsk_write::write(
+        creator,
+        tracks,
+        sides,
+        sectors,
+        code,
+        gap,
+        filler,
+        content,
+        &mut image[..places],
+    );
+    match found {
+        Written::Length(n) => {
+            let row = [n as u64];
+            boundary::give(out, &row)
+        }
+        Written::Refused(r) => boundary::code(r),
     }
 }

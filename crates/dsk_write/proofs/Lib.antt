@@ -1,0 +1,5 @@
+pub mod Stores
+pub mod Joined
+pub mod Sizes
+pub mod Puts
+pub mod Outcome

@@ -1,0 +1,122 @@
+-- How long the parts of an image are, and where its blocks and their data lie.
+use Prim.Native.Nat.{ℕ, _+_, _-_, _*_, _<_, _≤_}
+use mathlib.Core.Path.{_≡_, refl, ap, _∙_}
+use mathlib.Core.List.{List, [], _∷_, _++_}
+use native.Mathlib.Nat.{add-mul, mul-assoc, mul-comm}
+use native.Mathlib.Omega.{arith}
+use lib.ListN.{length, take, drop, replicate, length-append, length-replicate, length-drop}
+use lib.Seq.{length-take-le}
+use Rattle.octets.proofs.Numbers.{le-length}
+use Rattle.dsk_fields.specs.Fields.{infoSize, blockText}
+use Rattle.dsk_fields.proofs.Strides.{stride, inside}
+use Rattle.dsk_layout.specs.declared.Layout.{Layout}
+use Rattle.dsk_layout.specs.Layouts.{trackData, trackLength, blockCount, allData, imageLength, Writable}
+use Rattle.dsk_write.specs.Images.{filledUp, openingText, geometryBytes, headerBytes, entryBytes, numberBytes, listBytes, infoBytes, blockOffset, dataOfBlock, blockBytes, trackBytes, imageBytes, joinedFrom}
+use Rattle.dsk_write.specs.Steps.{Located}
+use Rattle.dsk_write.proofs.Joined.{joined-length}
+
+-- ---- the information blocks
+
+filled-length : (xs : List ℕ) → length xs ≤ 256 → length (filledUp xs) ≡ 256
+filled-length xs h =
+    let zeros : List ℕ = replicate (infoSize - length xs) 0 in
+    let a = length-append xs zeros in
+    let z = length-replicate {A = ℕ} (infoSize - length xs) 0 in
+    omega arith
+
+-- what is said in the Disc Information Block
+pub header-said : (c : List ℕ) (l : Layout) → length c ≡ 14 → length (openingText ++ c ++ geometryBytes l) ≡ 52
+header-said c l h =
+    let a = length-append (openingText ++ c) (geometryBytes l) in
+    let n = le-length 2 (trackLength l) in
+    omega arith
+
+pub header-length : (c : List ℕ) (l : Layout) → length c ≡ 14 → length (headerBytes c l) ≡ 256
+unfolding headerBytes
+header-length c l h = let n = header-said c l h in filled-length (openingText ++ c ++ geometryBytes l) (omega arith)
+
+pub list-length : (t s code n : ℕ) → length (joinedFrom (entryBytes t s code) 0 n) ≡ 8 * n
+list-length t s code n = joined-length (entryBytes t s code) 8 n (λ i h. refl) 0 n (omega arith) ∙ mul-comm n 8
+
+-- what is said in a Track Information Block
+pub info-said : (l : Layout) (t s : ℕ) → length (blockText ++ (0 ∷ 0 ∷ 0 ∷ 0 ∷ []) ++ numberBytes l t s ++ listBytes l t s) ≡ 24 + 8 * l .sectors
+info-said l t s = let n = list-length t s (l .code) (l .sectors) in omega arith
+
+pub info-length : (l : Layout) (t s : ℕ) → l .sectors ≤ 29 → length (infoBytes l t s) ≡ 256
+unfolding infoBytes
+info-length l t s h =
+    let n = info-said l t s in
+    filled-length (blockText ++ (0 ∷ 0 ∷ 0 ∷ 0 ∷ []) ++ numberBytes l t s ++ listBytes l t s) (omega arith)
+
+-- ---- the blocks
+
+-- the next side's block stands where this one ends, and the next track's as far on as its sides take
+pub next-side : (l : Layout) (t s : ℕ) → blockOffset l t s + trackLength l ≡ blockOffset l t (s + 1)
+next-side l t s =
+    let e = add-mul (t * l .sides + s) 1 (trackLength l) in
+    let f : t * l .sides + (s + 1) ≡ t * l .sides + s + 1 = omega arith in
+    let g = ap (λ (i : ℕ). i * trackLength l) f in
+    omega arith
+
+pub next-track : (l : Layout) (t : ℕ) → blockOffset l t 0 + l .sides * trackLength l ≡ blockOffset l (t + 1) 0
+next-track l t =
+    let e = add-mul (t * l .sides + 0) (l .sides) (trackLength l) in
+    let f = add-mul t 1 (l .sides) in
+    let g : (t + 1) * l .sides + 0 ≡ t * l .sides + 0 + l .sides = omega arith in
+    let h = ap (λ (i : ℕ). i * trackLength l) g in
+    omega arith
+
+pub first-offset : (l : Layout) → blockOffset l 0 0 ≡ infoSize
+first-offset l =
+    let e : 0 * l .sides + 0 ≡ 0 = omega arith in
+    let f = ap (λ (i : ℕ). i * trackLength l) e in
+    omega arith
+
+module _ (l : Layout) {t s : ℕ} (h : t < l .tracks) (k : s < l .sides) where
+  index-below : t * l .sides + s < blockCount l
+  index-below = inside (l .tracks) (l .sides) h k
+
+  -- a block lies in the image, and its data in the data
+  pub block-within : blockOffset l t s + trackLength l ≤ imageLength l
+  block-within = let m = stride (trackLength l) index-below in omega arith
+
+  pub data-within : (t * l .sides + s) * trackData l + trackData l ≤ allData l
+  data-within = let m = stride (trackData l) index-below in omega arith
+
+-- the offsets of the block and of its data, as they are reckoned from the layout's numbers
+pub located : (l : Layout) {t s a b c size track : ℕ} → t < l .tracks → s < l .sides → a ≡ t → b ≡ l .sides → c ≡ s → size ≡ trackData l
+    → track ≡ trackLength l → Located l t s (record { block = infoSize + (a * b + c) * track; content = (a * b + c) * size; size = size })
+located l {t} {s} {a} {b} {c} {size} {track} h k p q r e f =
+    let room = block-within l h k in
+    let within = data-within l h k in
+    let block : infoSize + (a * b + c) * track ≡ blockOffset l t s = rw (p, q, r, f) in
+    let content : (a * b + c) * size ≡ (t * l .sides + s) * trackData l = rw (p, q, r, e) in
+    record { block = block; content = content; size = e; room = omega arith; within = omega arith }
+
+module _ (l : Layout) (d : List ℕ) (few : l .sectors ≤ 29) (content : length d ≡ allData l) where
+  pub data-length : {t s : ℕ} → t < l .tracks → s < l .sides → length (dataOfBlock l d (t * l .sides + s)) ≡ trackData l
+  data-length {t} {s} h k =
+      let w = data-within l h k in
+      let n = length-drop ((t * l .sides + s) * trackData l) d in
+      length-take-le (trackData l) (drop ((t * l .sides + s) * trackData l) d) (omega arith)
+
+  pub block-length : {t s : ℕ} → t < l .tracks → s < l .sides → length (blockBytes l d t s) ≡ trackLength l
+  unfolding blockBytes
+  block-length {t} {s} h k =
+      let a = length-append (infoBytes l t s) (dataOfBlock l d (t * l .sides + s)) in
+      let i = info-length l t s few in
+      let n = data-length h k in
+      omega arith
+
+  pub track-length : {t : ℕ} → t < l .tracks → length (trackBytes l d t) ≡ l .sides * trackLength l
+  track-length {t} h = joined-length (blockBytes l d t) (trackLength l) (l .sides) (λ s k. block-length h k) 0 (l .sides) (omega arith)
+
+-- the whole image has the length that its layout says
+pub image-length : (c : List ℕ) (l : Layout) (d : List ℕ) → Writable l (length c) (length d) → length (imageBytes c l d) ≡ imageLength l
+unfolding imageBytes
+image-length c l d w =
+    let a = length-append (headerBytes c l) (joinedFrom (trackBytes l d) 0 (l .tracks)) in
+    let h = header-length c l (w .creator) in
+    let tracks = joined-length (trackBytes l d) (l .sides * trackLength l) (l .tracks) (λ t k. track-length l d (w .sectorsMost) (w .content) k) 0 (l .tracks) (omega arith) in
+    let m = mul-assoc (l .tracks) (l .sides) (trackLength l) in
+    omega arith
