@@ -1,7 +1,7 @@
 //! Standard DSK disk images, by the proved library.
 //!
-//! Every call takes the bytes of an image and judges it anew; it answers for every image and every argument. A [`Refusal`] has one of 9
-//! numbers and a position. Nothing here copies an image.
+//! Every call on an image takes its bytes and judges it anew; it answers for every image and every argument. [`write`] makes a new image of
+//! the data of its sectors. A [`Refusal`] has one of 10 numbers and a position. Nothing here copies an image.
 //!
 //! A block is what the image has of one side of one track. Tracks, sides, and sectors in their block count from 0.
 //!
@@ -21,11 +21,13 @@
 
 mod answers;
 pub mod example;
+mod layout;
 #[allow(unsafe_code)]
 pub mod raw;
 mod refusal;
 
 pub use answers::{Block, Geometry, Sector};
+pub use layout::Layout;
 pub use refusal::{Reason, Refusal};
 
 /// Whether the image obeys the rules: refusals 30 to 35.
@@ -99,4 +101,29 @@ pub fn data(image: &[u8], track: u32, side: u32, index: u32) -> Result<&[u8], Re
     // The archive gives parts of the image alone.
     let rest = image.get(found.offset as usize..).unwrap_or_default();
     Ok(rest.get(..found.length as usize).unwrap_or_default())
+}
+
+/// Writes an image to the start of `image`, and says how many bytes it has; what is beyond them stays.
+///
+/// The sectors of a block are numbered from 1, with their own track and side and status bytes 0. The data are those of all sectors, by
+/// track, then side, then sector. Refusals: 41 where the creator has not 14 bytes, where a number is out of its range or the track size
+/// above 65,535, or where the data have another length than [`Layout::data_size`]; then 15 where `image` is shorter than
+/// [`Layout::image_size`].
+///
+/// ```
+/// let layout = dsk::Layout { tracks: 2, sides: 1, sectors: 3, size_code: 0, gap: 0x4E, filler: 0xE5 };
+/// let data: Vec<u8> = (0..768).map(|i| (i / 128) as u8).collect();
+/// let mut image = vec![7; 1537];
+/// assert_eq!(dsk::write(b"an example    ", layout, &data, &mut image)?, 1536);
+/// assert_eq!(image[1536], 7);
+/// assert_eq!(dsk::geometry(&image)?, dsk::Geometry { tracks: 2, sides: 1, track_size: 640 });
+/// assert_eq!(dsk::sector(&image, 1, 0, 2)?.id, 3);
+/// assert_eq!(dsk::data(&image, 1, 0, 2)?, &data[640..768]);
+/// assert_eq!(dsk::write(b"too short", layout, &data, &mut image).unwrap_err().reason, dsk::Reason::Layout);
+/// # Ok::<(), dsk::Refusal>(())
+/// ```
+pub fn write(creator: &[u8], layout: Layout, data: &[u8], image: &mut [u8]) -> Result<usize, Refusal> {
+    let mut out = [0];
+    Refusal::of_code(raw::write(creator, layout, data, image, &mut out))?;
+    Ok(out[0] as usize)
 }

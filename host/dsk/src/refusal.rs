@@ -2,7 +2,7 @@
 
 use std::fmt;
 
-/// Why a call is refused. The number of a reason is its discriminant, 13 to 15 or 30 to 35.
+/// Why a call is refused. The number of a reason is its discriminant, 13 to 15, 30 to 35 or 41.
 #[derive(Clone, Copy, Debug, PartialEq, Eq, Hash)]
 #[repr(u8)]
 pub enum Reason {
@@ -24,15 +24,17 @@ pub enum Reason {
     Sectors = 34,
     /// The data of a block's sectors; the position is the block's index.
     Data = 35,
+    /// What an image is to be written of: its creator, its numbers, how many bytes of data.
+    Layout = 41,
 }
 
 impl Reason {
     /// All reasons, by number.
     ///
     /// ```
-    /// assert_eq!(dsk::Reason::ALL.map(dsk::Reason::number), [13, 14, 15, 30, 31, 32, 33, 34, 35]);
+    /// assert_eq!(dsk::Reason::ALL.map(dsk::Reason::number), [13, 14, 15, 30, 31, 32, 33, 34, 35, 41]);
     /// ```
-    pub const ALL: [Reason; 9] = [
+    pub const ALL: [Reason; 10] = [
         Reason::Absent,
         Reason::Sector,
         Reason::Places,
@@ -42,9 +44,10 @@ impl Reason {
         Reason::Block,
         Reason::Sectors,
         Reason::Data,
+        Reason::Layout,
     ];
 
-    /// The number of the reason, 13 to 15 or 30 to 35.
+    /// The number of the reason, 13 to 15, 30 to 35 or 41.
     pub fn number(self) -> u8 {
         self as u8
     }
@@ -66,6 +69,7 @@ impl Reason {
             Reason::Block => "a block is without \"Track-Info\", or with another track or side number",
             Reason::Sectors => "a block has more than 29 sectors, a size code above 6, or a sector of a larger code",
             Reason::Data => "the data of the sectors do not fit in their block",
+            Reason::Layout => "no image is written of such a creator, of such numbers, or of so many bytes of data",
         }
     }
 
