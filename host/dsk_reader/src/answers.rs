@@ -1,13 +1,13 @@
-//! What the reader answers: a refusal, or the fields of what was asked for.
+//! What is answered: a refusal, or the fields of what was asked for.
 
-/// Q-10, refusals: the number, and the position (a block's index for 33 to 35, else 0).
+/// refusals: the number, and the position (a block's index for 33 to 35, else 0).
 #[derive(Clone, Copy, Debug, PartialEq, Eq)]
 pub struct Refusal {
     pub number: u32,
     pub position: u64,
 }
 
-/// Q-10, refusals: a refusal at position 0.
+/// refusals: a refusal at position 0.
 pub(crate) fn refuse(number: u32) -> Refusal {
     refuse_at(number, 0)
 }
