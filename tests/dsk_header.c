@@ -1,11 +1,11 @@
-/* Calls every function of dsk.h, from C99 and from C++: on a small image, on refused ones, and with too few places. Writes the small image
- * to the file that it is given, if any. */
+/* Calls every function of dsk.h, from C99 and from C++: on a small image, on refused ones, and with too few places. Stores the small image
+ * in the file that it is given, if any. */
 #include "dsk.h"
 
 #include <stdio.h>
 #include <string.h>
 
-enum { TRACK_SIZE = 512, SIZE = 256 + 4 * TRACK_SIZE };
+enum { TRACK_SIZE = 512, SIZE = 256 + 4 * TRACK_SIZE, DATA = 8 * 128 };
 
 static int failures = 0;
 
@@ -101,7 +101,80 @@ static void damage(uint8_t *image) {
     EXPECT(dsk_validate(image, SIZE) == DSK_ACCEPTED);
 }
 
-/* Writes the image to a file. */
+/* What images are written of: the data of the small image, and one byte more; its numbers, and the same without sectors. */
+static const uint8_t creator[15] = "a test in C.  ";
+static uint8_t data[DATA + 1];
+static const uint32_t small[6] = {2, 2, 2, 0, 0x4E, 0xE5}, bare[6] = {2, 2, 0, 0, 0x4E, 0xE5};
+
+static uint64_t write_image(const uint32_t *numbers, size_t creator_size, size_t data_size, uint8_t *image, size_t size, uint64_t *out,
+                            size_t places) {
+    return dsk_write(creator, creator_size, numbers[0], numbers[1], numbers[2], numbers[3], numbers[4], numbers[5], data, data_size, image,
+                     size, out, places);
+}
+
+/* Makes of the small image the one that is written of its data: with a creator, sectors from 1 on, and status bytes 0. */
+static void make_written(uint8_t *image) {
+    memcpy(image + 0x22, creator, 14);
+    for (int i = 0; i < 4; i++) {
+        uint8_t *block = image + 256 + TRACK_SIZE * i;
+        memcpy(data + 256 * i, block + 256, 256);
+        for (uint8_t k = 0; k < 2; k++) {
+            const uint8_t sector[4] = {(uint8_t)(1 + k), 0, 0, 0}; /* R, N, ST1, ST2 */
+            memcpy(block + 0x18 + 8 * k + 2, sector, sizeof sector);
+        }
+    }
+}
+
+/* Whether all of so many bytes have the value. */
+static int all(const uint8_t *bytes, size_t size, uint8_t value) {
+    while (size > 0 && bytes[size - 1] == value) size--;
+    return size == 0;
+}
+
+/* An image is written over old bytes, which stay beyond it, and read back. */
+static void write_and_read(const uint8_t *due) {
+    static uint8_t image[SIZE + 9];
+    uint64_t out[8] = {7, 7};
+    memset(image, 0xA7, sizeof image);
+    EXPECT(write_image(small, 14, DATA, image, sizeof image, out, 2) == DSK_ACCEPTED && out[0] == SIZE && out[1] == 7);
+    EXPECT(memcmp(image, due, SIZE) == 0 && all(image + SIZE, 9, 0xA7));
+    EXPECT(dsk_validate(image, sizeof image) == DSK_ACCEPTED);
+    for (uint32_t i = 0; i < 8; i++) {
+        EXPECT(dsk_sector(image, sizeof image, i / 4, i / 2 % 2, i % 2, out, 8) == DSK_ACCEPTED);
+        EXPECT(out[0] == i / 4 && out[1] == i / 2 % 2 && out[2] == 1 + i % 2 && out[3] == 0 && out[4] == 0 && out[5] == 0);
+        EXPECT(out[7] == 128 && memcmp(image + out[6], data + 128 * i, 128) == 0);
+    }
+    memset(image, 0xA7, sizeof image); /* no more bytes than are needed, and then no sectors */
+    EXPECT(write_image(small, 14, DATA, image, SIZE, out, 1) == DSK_ACCEPTED && memcmp(image, due, SIZE) == 0 && all(image + SIZE, 9, 0xA7));
+    EXPECT(write_image(bare, 14, 0, image, SIZE, out, 1) == DSK_ACCEPTED && out[0] == 5 * 256);
+    EXPECT(memcmp(image + 5 * 256, due + 5 * 256, SIZE - 5 * 256) == 0);
+}
+
+/* What no image is written of, which comes first, and too few bytes or places; nothing is written then. */
+static void write_in_vain(void) {
+    const uint32_t wrong[6] = {256, 3, 30, 6, 256, 256};
+    static uint8_t image[SIZE];
+    uint64_t out[1] = {7};
+    memset(image, 0xA7, SIZE);
+    for (int i = 0; i < 6; i++) {
+        uint32_t numbers[6];
+        memcpy(numbers, bare, sizeof numbers);
+        numbers[i] = wrong[i];
+        EXPECT(write_image(numbers, 14, 0, image, SIZE, out, 1) == DSK_REFUSED_LAYOUT);
+        numbers[i] = bare[i] + (1U << 31);
+        EXPECT(write_image(numbers, 14, 0, image, 0, out, 0) == DSK_REFUSED_LAYOUT);
+    }
+    EXPECT(write_image(small, 13, DATA, image, SIZE, out, 1) == DSK_REFUSED_LAYOUT);
+    EXPECT(write_image(small, 15, DATA, image, 0, out, 1) == DSK_REFUSED_LAYOUT);
+    EXPECT(write_image(small, 14, DATA - 1, image, SIZE, out, 1) == DSK_REFUSED_LAYOUT);
+    EXPECT(write_image(small, 14, DATA + 1, image, 0, out, 0) == DSK_REFUSED_LAYOUT);
+    EXPECT(write_image(small, 14, DATA, image, SIZE - 1, out, 1) == DSK_REFUSED_PLACES);
+    EXPECT(write_image(small, 14, DATA, image, SIZE, out, 0) == DSK_REFUSED_PLACES);
+    EXPECT(write_image(small, 14, DATA, image, 0, out, 0) == DSK_REFUSED_PLACES);
+    EXPECT(all(image, SIZE, 0xA7) && out[0] == 7);
+}
+
+/* Stores the image in a file. */
 static void store(const uint8_t *image, const char *name) {
     FILE *file = fopen(name, "wb");
     EXPECT(file != NULL && fwrite(image, 1, SIZE, file) == SIZE && fclose(file) == 0);
@@ -116,6 +189,9 @@ int main(int count, char **words) {
     if (count > 1) {
         store(image, words[1]);
     }
+    make_written(image);
+    write_and_read(image);
+    write_in_vain();
     if (failures == 0) {
         printf("include/dsk.h: every function called, as expected\n");
     }

@@ -15,8 +15,8 @@ pub trait Ask: Clone + Debug {
     /// Puts the question about these bytes to both.
     fn compare(&self, bytes: &[u8]) -> Result<Self::Agreed, Difference>;
 
-    /// The numbers of refusal that were agreed on, 0 for none, each with the kind that it counts for.
-    fn counted(&self, agreed: &Self::Agreed) -> Vec<(usize, u32)>;
+    /// The numbers of refusal that were agreed on of these bytes, 0 for none, each with the kind that it counts for.
+    fn counted(&self, bytes: &[u8], agreed: &Self::Agreed) -> Vec<(usize, u32)>;
 
     /// The question without one of its parts; nothing where it has no such part.
     fn without(&self, _part: usize) -> Option<Self> {

@@ -37,7 +37,12 @@ fn code(refusal: Refusal) -> u64 {
 
 /// What a buffer of so many old elements holds after an answer: the values at its start, or all as it was.
 pub fn after<T: Copy>(old: T, places: usize, values: &[T]) -> Vec<T> {
-    let mut contents = vec![old; places];
+    over(&vec![old; places], values)
+}
+
+/// What a buffer of these old elements holds after an answer.
+pub fn over<T: Copy>(old: &[T], values: &[T]) -> Vec<T> {
+    let mut contents = old.to_vec();
     contents[..values.len()].copy_from_slice(values);
     contents
 }

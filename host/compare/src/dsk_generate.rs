@@ -47,13 +47,9 @@ fn noise(random: &mut Random) -> Vec<u8> {
 /// Parts of an image: valid but where its data are a little too long for their block.
 fn parts(random: &mut Random) -> Parts {
     let (tracks, sides) = (tracks(random), random.between(1, 2) as u8);
-    let budget = match random.below(60) {
-        0 => 130_000,
-        1..=6 => 26_000,
-        _ => random.pick(&[1000, 3000, 6000, 6000]),
-    };
     let count = usize::from(tracks) * usize::from(sides);
-    let blocks = blocks(random, count, (budget / count).min(LARGEST - INFORMATION));
+    let room = room(random, count);
+    let blocks = blocks(random, count, room);
     let needed = blocks.iter().map(BlockPart::size).max().unwrap_or(INFORMATION);
     Parts {
         opening: opening(random),
@@ -67,12 +63,22 @@ fn parts(random: &mut Random) -> Parts {
 }
 
 /// How many tracks: mostly a few, now and then many.
-fn tracks(random: &mut Random) -> u8 {
+pub fn tracks(random: &mut Random) -> u8 {
     match random.below(400) {
         0 => random.pick(&[127, 128, 129, 254, 255, 255]),
         1..=8 => random.pick(&[10, 35, 40, 42, 80]),
         _ => random.pick(&[1, 1, 1, 2, 2, 3, 4, 5]),
     }
+}
+
+/// How many bytes the data of each of so many blocks take at most.
+pub fn room(random: &mut Random, count: usize) -> usize {
+    let budget = match random.below(60) {
+        0 => 130_000,
+        1..=6 => 26_000,
+        _ => random.pick(&[1000, 3000, 6000, 6000]),
+    };
+    (budget / count).min(LARGEST - INFORMATION)
 }
 
 /// The first 34 bytes, as tools write them or with no more than the sign, and a creator.
@@ -88,11 +94,11 @@ fn opening(random: &mut Random) -> Vec<u8> {
 /// So many blocks, alike or of any shape, whose data take at most so many bytes.
 fn blocks(random: &mut Random, count: usize, room: usize) -> Vec<BlockPart> {
     let alike = random.once_in(2);
-    let first = shape(random, room);
+    let first = shape(random, room, 6);
     let plain = random.once_in(3);
     let mut blocks = Vec::new();
     for index in 0..count {
-        let (code, sectors) = if alike { first } else { shape(random, room) };
+        let (code, sectors) = if alike { first } else { shape(random, room, 6) };
         let entry = |at: usize, random: &mut Random| if plain { [index as u8, 0, at as u8, code, 0, 0, 0, 0] } else { entry(random, code) };
         let entries = (0..sectors).map(|at| entry(at, random)).collect();
         blocks.push(BlockPart { size_code: code, gap: random.byte(), filler: random.byte(), entries });
@@ -100,9 +106,9 @@ fn blocks(random: &mut Random, count: usize, room: usize) -> Vec<BlockPart> {
     blocks
 }
 
-/// A size code and a number of sectors whose data take at most so many bytes.
-fn shape(random: &mut Random, room: usize) -> (u8, usize) {
-    let largest = (0..=6).rev().find(|&code| sector_size(code) <= room).unwrap_or(0);
+/// A size code, at most this one, and a number of sectors whose data take at most so many bytes.
+pub fn shape(random: &mut Random, room: usize, most_code: u8) -> (u8, usize) {
+    let largest = (0..=most_code).rev().find(|&code| sector_size(code) <= room).unwrap_or(0);
     let code = if random.once_in(3) { largest } else { random.between(0, largest.into()) as u8 };
     let most = (room / sector_size(code)).min(MOST_SECTORS);
     let sectors = match random.below(6) {

@@ -89,8 +89,7 @@ pub struct Parts {
 impl Parts {
     /// An image of this geometry with the same plain block for every track and side, and nothing after the last.
     pub fn plain(tracks: u8, sides: u8, track_size: u16, (size_code, sectors): (u8, u8)) -> Parts {
-        let numbers = (0..tracks).flat_map(|track| (0..sides).map(move |side| (track, side)));
-        let blocks = numbers.map(|(track, side)| BlockPart::plain(track, side, size_code, sectors)).collect();
+        let blocks = file_order(tracks, sides).map(|(track, side)| BlockPart::plain(track, side, size_code, sectors)).collect();
         Parts { opening: OPENING.to_vec(), tracks, sides, track_size, blocks, ground: Ground::Clean, trailer: 0 }
     }
 
@@ -125,6 +124,11 @@ impl Parts {
             set(image, place, &[0; INFORMATION]);
         }
     }
+}
+
+/// Track and side of each block, in the order of the file.
+pub fn file_order(tracks: u8, sides: u8) -> impl Iterator<Item = (u8, u8)> {
+    (0..tracks).flat_map(move |track| (0..sides).map(move |side| (track, side)))
 }
 
 /// A byte of the image, 0 where it is not there.

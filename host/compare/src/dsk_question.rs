@@ -4,12 +4,13 @@ use crate::ask::Ask;
 use crate::boundary::{fill, BYTE, NUMBER};
 use crate::count::Kind;
 use crate::difference::{after, same, same_code, Difference};
+use crate::dsk_writing::Writing;
 use crate::guarded::Guarded;
 use dsk::raw;
 use dsk_reader as reader;
 use std::fmt::Debug;
 
-/// A call with its arguments; `places` is the size of the buffer lent for numbers.
+/// A call with its arguments; `places` is the size of the buffer lent for numbers. What is written is written over the image.
 #[derive(Clone, Debug, PartialEq, Eq)]
 pub enum Question {
     Validate,
@@ -17,6 +18,7 @@ pub enum Question {
     Block { track: u32, side: u32, places: usize },
     Sector { track: u32, side: u32, index: u32, places: usize },
     Data { track: u32, side: u32, index: u32 },
+    Write(Writing),
 }
 
 /// A kind of calls that uses these numbers.
@@ -33,6 +35,10 @@ impl Ask for Question {
         kind("calls of block", "call of block", &[0, 13, 15, 30, 31, 32, 33, 34, 35]),
         kind("calls of sector", "call of sector", &[0, 13, 14, 15, 30, 31, 32, 33, 34, 35]),
         kind("calls of data", "call of data", &[0, 13, 14, 30, 31, 32, 33, 34, 35]),
+        kind("calls of write lent enough", "call of write lent enough", &[0, 41]),
+        kind("calls of write lent too short an image", "call of write lent too short an image", &[15, 41]),
+        kind("calls of write lent no place for the length", "call of write lent no place for the length", &[15, 41]),
+        kind("calls of write lent neither", "call of write lent neither", &[15, 41]),
     ];
 
     fn compare(&self, bytes: &[u8]) -> Result<u32, Difference> {
@@ -42,20 +48,34 @@ impl Ask for Question {
         Ok(number)
     }
 
-    fn counted(&self, &number: &u32) -> Vec<(usize, u32)> {
+    fn counted(&self, bytes: &[u8], &number: &u32) -> Vec<(usize, u32)> {
         let kind = match self {
             Question::Validate => 0,
             Question::Geometry { .. } => 1,
             Question::Block { .. } => 2,
             Question::Sector { .. } => 3,
             Question::Data { .. } => 4,
+            Question::Write(writing) => match writing.lacks(bytes) {
+                (false, false) => 5,
+                (true, false) => 6,
+                (false, true) => 7,
+                (true, true) => 8,
+            },
         };
         vec![(kind, number)]
+    }
+
+    /// What is written, made smaller in one way.
+    fn without(&self, part: usize) -> Option<Question> {
+        match self {
+            Question::Write(writing) => writing.smaller().into_iter().nth(part).map(Question::Write),
+            _ => None,
+        }
     }
 }
 
 /// The number of the refusal that all give, 0 for none.
-fn ask(image: &[u8], question: &Question) -> Result<u32, Difference> {
+pub fn ask(image: &[u8], question: &Question) -> Result<u32, Difference> {
     match *question {
         Question::Validate => {
             let expected = reader::validate(image);
@@ -85,6 +105,7 @@ fn ask(image: &[u8], question: &Question) -> Result<u32, Difference> {
             Ok(number)
         }
         Question::Data { track, side, index } => data(image, track, side, index),
+        Question::Write(ref writing) => writing.compare(image),
     }
 }
 
@@ -106,7 +127,7 @@ fn data(image: &[u8], track: u32, side: u32, index: u32) -> Result<u32, Differen
 }
 
 /// Whether two answers or refusals are the same.
-fn same_answer<T: PartialEq + Debug>(
+pub fn same_answer<T: PartialEq + Debug>(
     what: &str,
     expected: &Result<T, reader::Refusal>,
     got: &Result<T, reader::Refusal>,
@@ -121,7 +142,7 @@ fn same_answer<T: PartialEq + Debug>(
 // ---- what the wrapper and the boundary have, beside what the reader has
 
 /// A refusal of the wrapper as number and position.
-fn plain<T>(answer: Result<T, dsk::Refusal>) -> Result<T, reader::Refusal> {
+pub fn plain<T>(answer: Result<T, dsk::Refusal>) -> Result<T, reader::Refusal> {
     answer.map_err(|refusal| reader::Refusal { number: refusal.reason.number().into(), position: refusal.position })
 }
 
@@ -178,7 +199,10 @@ mod tests {
         }
         // the data of a sector, which is always lent its places
         assert_eq!(numbers(4), &listed("sector") - &BTreeSet::from([15]));
-        assert!(Question::KINDS.len() == 5 && Question::KINDS.iter().all(|kind| kind.never.is_empty()));
+        // writing, which has 15 exactly where too little is lent
+        assert_eq!(numbers(5), &listed("write") - &BTreeSet::from([15]));
+        (6..9).for_each(|kind| assert_eq!(numbers(kind), &listed("write") - &BTreeSet::from([0])));
+        assert!(Question::KINDS.len() == 9 && Question::KINDS.iter().all(|kind| kind.never.is_empty()));
     }
 
     #[test]

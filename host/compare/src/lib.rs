@@ -1,6 +1,7 @@
 //! The proved libraries beside the independent readers, for SCP and for DSK images.
 //!
-//! A case is an input by chance (an image, flux, times, or an image with a sequence of calls) with the questions that are put to both.
+//! A case is an input by chance (an image, flux, times, an image with a sequence of calls, or bytes that an image is written over) with the
+//! questions that are put to both.
 //! Cases are numbered; a seed and a number give the same case again. The modules of DSK images are those with `dsk` in their name.
 
 #![forbid(unsafe_code)]
@@ -13,7 +14,9 @@ pub mod difference;
 pub mod dsk_cases;
 pub mod dsk_generate;
 pub mod dsk_image;
+pub mod dsk_layouts;
 pub mod dsk_question;
+pub mod dsk_writing;
 pub mod generate;
 pub mod guarded;
 pub mod image;

@@ -12,7 +12,7 @@ use std::thread;
 
 const USAGE: &str = "usage: compare [--format F] [--cases N] [--seed S] [--case NUMBER]
   --format F     only this format, scp or dsk (default: one after the other)
-  --cases N      how many cases of a format (default 240000 of scp, 120000 of dsk); from 10000 on, a number of refusal that never came up
+  --cases N      how many cases of a format (default 240000 of scp, 160000 of dsk); from 10000 on, a number of refusal that never came up
                  is a failure
   --seed S       the seed (default 1)
   --case NUMBER  only this case";
@@ -43,7 +43,7 @@ fn main() -> ExitCode {
         }
     };
     let scp = agrees(&options, &Format { name: "scp", cases: 240_000, case: cases::case });
-    let dsk = agrees(&options, &Format { name: "dsk", cases: 120_000, case: dsk_cases::case });
+    let dsk = agrees(&options, &Format { name: "dsk", cases: 160_000, case: dsk_cases::case });
     ExitCode::from(u8::from(!(scp && dsk)))
 }
 
@@ -126,7 +126,7 @@ fn one<Q: Ask>(format: &Format<Q>, seed: u64, number: u64) -> Result<Count, Stri
     let mut count = Count::new(Q::KINDS);
     for question in &case.questions {
         match question.compare(&case.bytes) {
-            Ok(agreed) => question.counted(&agreed).into_iter().for_each(|(kind, number)| count.note(kind, number)),
+            Ok(agreed) => question.counted(&case.bytes, &agreed).into_iter().for_each(|(kind, number)| count.note(kind, number)),
             Err(difference) => {
                 let (bytes, smaller) = smallest(&case.bytes, question);
                 let now = smaller.compare(&bytes).err().unwrap_or(difference);

@@ -1,14 +1,13 @@
 //! One call, put to the library and to the reader: answers, every element of every lent buffer, and the guards around them.
 
 use crate::ask::Ask;
-use crate::boundary::{fill, within, BYTE, FLOAT, NUMBER};
+use crate::boundary::{fill, fill_two, BYTE, FLOAT, NUMBER};
 use crate::count::Kind;
-use crate::difference::{after, same, same_code, Difference, Refusal};
-use crate::guarded::{Guarded, Same};
+use crate::difference::{same, same_code, Difference};
+use crate::guarded::Guarded;
 use crate::sequence::{self, CALL, NOT_IN_ROWS};
 use scp::raw;
 use scp_reader as reader;
-use std::fmt::Debug;
 
 /// A call with its arguments; `places` is the size of the buffer lent for numbers.
 #[derive(Clone, Debug, PartialEq, Eq)]
@@ -51,7 +50,7 @@ impl Ask for Question {
         compare(bytes, self)
     }
 
-    fn counted(&self, agreed: &Agreed) -> Vec<(usize, u32)> {
+    fn counted(&self, _bytes: &[u8], agreed: &Agreed) -> Vec<(usize, u32)> {
         let rows = agreed.rows.iter().map(|&number| (1, number));
         rows.chain([(0, agreed.number)]).collect()
     }
@@ -181,7 +180,7 @@ fn rewrite(bytes: &[u8], track: u32, revolution: u32, duration: u32, words: &[u8
 fn intervals(flux: &[u8], times: usize, places: usize) -> Result<u32, Difference> {
     let lent = Guarded::new(flux, BYTE);
     let expected = reader::intervals(flux, times).map(|(found, open)| (vec![found.len() as u64, open], found));
-    let number = fill_two(expected, (times, NUMBER), places, |times, out| raw::intervals(lent.contents(), times, out))?;
+    let number = fill_two(expected, (&vec![NUMBER; times], NUMBER), places, |times, out| raw::intervals(lent.contents(), times, out))?;
     same("the flux", &lent, flux)?;
     Ok(number)
 }
@@ -190,32 +189,8 @@ fn intervals(flux: &[u8], times: usize, places: usize) -> Result<u32, Difference
 fn words(times: &[u64], room: usize, places: usize) -> Result<u32, Difference> {
     let lent = Guarded::new(times, NUMBER);
     let expected = reader::words(times, room).map(|bytes| (vec![bytes.len() as u64], bytes));
-    let number = fill_two(expected, (room, BYTE), places, |words, out| raw::words(lent.contents(), words, out))?;
+    let number = fill_two(expected, (&vec![BYTE; room], BYTE), places, |words, out| raw::words(lent.contents(), words, out))?;
     same("the times", &lent, times)?;
-    Ok(number)
-}
-
-/// Lends the library two buffers, for the values and for what is made, and compares the code and both: 15 where either is too short,
-/// and then neither is changed.
-fn fill_two<T: Copy + Same + Debug>(
-    expected: Result<(Vec<u64>, Vec<T>), reader::Refusal>,
-    (room, old): (usize, T),
-    places: usize,
-    call: impl FnOnce(&mut [T], &mut [u64]) -> u64,
-) -> Result<u32, Difference> {
-    let expected = expected.map_err(Refusal::from);
-    let expected = expected.and_then(|(values, made)| within(Ok::<_, Refusal>(values), places).map(|values| (values, made)));
-    let mut lent = Guarded::new(&vec![old; room], old);
-    let mut out = Guarded::new(&vec![NUMBER; places], NUMBER);
-    let got = call(lent.lent(), out.lent());
-    let number = same_code(&expected, got)?;
-    let (values, made) = expected.unwrap_or_default();
-    if made.len() > room {
-        let what = "how much is made".to_string();
-        return Err(Difference { what, reader: made.len().to_string(), library: format!("at most {room}") });
-    }
-    same("the buffer filled", &lent, &after(old, room, &made))?;
-    same("the buffer lent", &out, &after(NUMBER, places, &values))?;
     Ok(number)
 }
 
