@@ -95,6 +95,11 @@ impl Arguments {
     pub fn value(&self, name: &str) -> Option<&OsStr> {
         self.options.iter().find(|(option, _)| *option == name).map(|(_, value)| value.as_os_str())
     }
+
+    /// The number that an option is, or another one where it is not given.
+    pub fn number_or(&self, name: &str, other: u32) -> Result<u32, Failure> {
+        self.value(name).map_or(Ok(other), |text| number_of(name, text))
+    }
 }
 
 /// The number that an argument is.

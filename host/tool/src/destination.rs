@@ -23,6 +23,8 @@ pub enum Kind {
     Part,
     /// Something else, which never takes the image's place.
     Drawing,
+    /// An image that is made of data, with the permissions of the data where they are a regular file; it never takes their place.
+    Made,
 }
 
 /// Where a result is to be written.
@@ -40,7 +42,8 @@ pub struct Destination {
 }
 
 impl Destination {
-    /// The image, which is the first input, is replaced only with `--in-place`, another input never, another file only with `--force`.
+    /// The image, which is the first input unless one is made, is replaced only with `--in-place`, another input never, another file only
+    /// with `--force`.
     pub fn new(out: &OsStr, inputs: &[&Input], arguments: &Arguments, kind: Kind) -> Result<Destination, Failure> {
         let (in_place, force) = (arguments.has("--in-place"), arguments.has("--force"));
         if in_place && force {

@@ -5,6 +5,7 @@ mod dump;
 mod faults;
 mod layout;
 mod list;
+mod make;
 mod notes;
 mod reasons;
 mod sector;
@@ -14,4 +15,4 @@ mod validate;
 use crate::arguments::Command;
 
 /// All commands, in the order of the help.
-pub const COMMANDS: [Command; 4] = [list::COMMAND, validate::COMMAND, show::COMMAND, sector::COMMAND];
+pub const COMMANDS: [Command; 5] = [list::COMMAND, validate::COMMAND, show::COMMAND, sector::COMMAND, make::COMMAND];

@@ -13,12 +13,22 @@ use crate::reasons::{self, Asked};
 use crate::stamp::Stamp;
 use crate::streams;
 
-/// The greatest SCP image; a longer file is read to one byte more, so that an SCP image is refused and a DSK image shown as longer.
+/// The greatest SCP image; a longer file is read to one byte more, so that an SCP image, or data for a DSK image, is refused and a DSK image
+/// shown as longer.
 pub const GREATEST: u64 = scp::LONGEST_IMAGE as u64;
 
 /// Whether a file of which these bytes were read is longer than that; then not all of it was read.
 pub fn is_cut(read: &[u8]) -> bool {
     read.len() as u64 > GREATEST
+}
+
+/// What stands before a number of these bytes up to the end, where not all of the file was read.
+pub fn at_least(read: &[u8]) -> &'static str {
+    if is_cut(read) {
+        "at least "
+    } else {
+        ""
+    }
 }
 
 /// A name as it can be shown on one line; what does not print, and bytes that are not UTF-8, are escaped.
@@ -99,15 +109,6 @@ impl Input {
         Ok(self)
     }
 
-    /// What stands before a number of its bytes up to the end, where not all of it was read.
-    pub fn at_least(&self) -> &'static str {
-        if is_cut(&self.bytes) {
-            "at least "
-        } else {
-            ""
-        }
-    }
-
     /// Who may use it, where it is a regular file: those of a pipe, a socket or a device say nothing of what is read from it.
     pub fn permissions(&self) -> Option<Permissions> {
         self.is_regular().then(|| self.metadata.permissions())
@@ -120,10 +121,16 @@ impl Input {
 
     /// A copy of the bytes, if there is memory for them.
     pub fn copy(&self) -> Result<Vec<u8>, Failure> {
-        let mut copy = Vec::new();
-        copy.try_reserve_exact(self.bytes.len()).map_err(|error| Failure::file(format!("{}: {error}", self.name)))?;
+        let mut copy = self.room(self.bytes.len())?;
         copy.extend_from_slice(&self.bytes);
         Ok(copy)
+    }
+
+    /// No bytes, but room for as many as are made of this file, if there is memory for them.
+    pub fn room(&self, size: usize) -> Result<Vec<u8>, Failure> {
+        let mut room = Vec::new();
+        room.try_reserve_exact(size).map_err(|error| Failure::file(format!("{}: {error}", self.name)))?;
+        Ok(room)
     }
 
     /// The library's answer to a question about this image, or its refusal as a failure.

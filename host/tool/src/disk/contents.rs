@@ -41,13 +41,14 @@ pub fn refused(layout: Layout) -> Vec<Found> {
 #[cfg(test)]
 mod tests {
     use super::*;
-    use scp_compare::dsk_cases::case;
+    use scp_compare::dsk_generate::image;
+    use scp_compare::random::Random;
 
     #[test]
     fn of_an_accepted_image_all_can_be_read_without_the_library() {
         let mut sectors = 0;
         for number in 0..20_000 {
-            let image = case(10, number).bytes;
+            let image = image(&mut Random::of_case(10, number));
             let due = accepted(&image);
             assert_eq!(due.as_ref().err().copied(), dsk::validate(&image).err(), "case {number}");
             let Ok((geometry, due)) = due else { continue };

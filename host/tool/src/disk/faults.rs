@@ -156,13 +156,14 @@ impl Search<'_> {
 #[cfg(test)]
 mod tests {
     use super::*;
-    use scp_compare::dsk_cases::case;
+    use scp_compare::dsk_generate::image;
+    use scp_compare::random::Random;
 
     #[test]
     fn the_first_fault_is_what_the_library_refuses() {
         let mut met = [0; 7];
         for number in 0..60_000 {
-            let image = case(9, number).bytes;
+            let image = image(&mut Random::of_case(9, number));
             let verdict = dsk::validate(&image).err();
             let faults = Refusal::faults(&image);
             assert_eq!(faults.first().map(|fault| fault.refusal), verdict, "case {number}: {faults:?}");

@@ -19,10 +19,13 @@ pub const MOST_SECTORS: u8 = 29;
 /// The greatest size code of a block.
 pub const GREATEST_CODE: u8 = 6;
 
+/// The greatest size code whose sectors are stored whole, and that an image is made with.
+pub const GREATEST_WHOLE: u8 = 5;
+
 /// How many bytes of data a sector has by the size code of its block; nothing for a code that no block may have.
 pub fn sector_size(code: u8) -> Option<u64> {
     match code {
-        0..GREATEST_CODE => Some(full_size(code)),
+        0..=GREATEST_WHOLE => Some(full_size(code)),
         // Of 8,192 bytes only so many are stored.
         GREATEST_CODE => Some(0x1800),
         _ => None,
@@ -30,8 +33,8 @@ pub fn sector_size(code: u8) -> Option<u64> {
 }
 
 /// How many bytes a sector has on the disk by a size code up to the greatest.
-pub fn full_size(code: u8) -> u64 {
-    128 << code
+pub fn full_size(code: impl Into<u32>) -> u64 {
+    128 << code.into()
 }
 
 /// Where a block is.

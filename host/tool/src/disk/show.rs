@@ -11,7 +11,7 @@ use super::notes;
 use crate::arguments::{Arguments, Command};
 use crate::failure::{Failure, Status};
 use crate::faults::{of_image, Refused};
-use crate::files::Input;
+use crate::files::{at_least, Input};
 use crate::numbers::{counted, grouped};
 use crate::show::field;
 
@@ -51,7 +51,7 @@ impl Show<'_> {
     /// The fields of the image, the table of blocks and the table of sectors.
     fn say(&self, out: &mut dyn Write) -> io::Result<()> {
         field(out, "image", &self.input.name)?;
-        field(out, "size", format!("{}{} bytes", self.input.at_least(), grouped(self.layout.len())))?;
+        field(out, "size", format!("{}{} bytes", at_least(self.layout.0), grouped(self.layout.len())))?;
         let Some(geometry) = self.geometry else {
             return field(out, "header", "not there");
         };
@@ -87,7 +87,7 @@ impl Show<'_> {
         let after = match size.checked_sub(end) {
             None => format!("{} missing", counted(end - size, "byte")),
             Some(0) => "no bytes".to_string(),
-            Some(after) => format!("{}{} from {} on", self.input.at_least(), counted(after, "byte"), grouped(end)),
+            Some(after) => format!("{}{} from {} on", at_least(self.layout.0), counted(after, "byte"), grouped(end)),
         };
         field(out, "after last block", after)
     }

@@ -5,7 +5,7 @@ use std::io::{self, Write};
 use scp::Reason;
 
 use super::{fault, field, say_footer, say_header};
-use crate::files::Input;
+use crate::files::{at_least, Input};
 use crate::flux::count_intervals;
 use crate::layout::{Layout, TrackHeader, FOOTER_SIGN, TABLE_END};
 use crate::numbers::{grouped, milliseconds};
@@ -19,7 +19,7 @@ pub fn show(input: &Input, out: &mut dyn Write) -> io::Result<()> {
     let layout = Layout(&input.bytes);
     let size = grouped(input.bytes.len() as u64);
     field(out, "image", &input.name)?;
-    field(out, "size", format!("{}{size} bytes", input.at_least()))?;
+    field(out, "size", format!("{}{size} bytes", at_least(&input.bytes)))?;
     let Some(header) = layout.header() else {
         return field(out, "header", "not there");
     };

@@ -1,9 +1,12 @@
-//! What patch, replay and plot write, and what they never replace.
+//! What the commands write, and what they never replace.
 
 use std::fs;
 use std::process::Child;
 
 use crate::bench::{image, patched_a, Bench, Revolution, Run};
+
+/// The options of a DSK image of 512 bytes of data.
+const MAKE: &str = "--tracks 1 --sectors 1";
 
 /// The end of a patch of image A.
 const TAIL: &str = "0 0 --duration 8000000 --words words.bin";
@@ -79,12 +82,14 @@ fn no_file_that_is_read_is_replaced() {
     let bench = Bench::with_words();
     bench.put("times.txt", b"320\n65537\n240\n");
     bench.put("calls.txt", b"validate\n");
+    bench.put("data.bin", &[7; 512]);
     let read = "the command reads this file, so it is not replaced";
     let names = bench.names();
     for (name, line) in [
         ("words.bin", "patch a.scp OUT 0 0 --duration keep --words words.bin"),
         ("times.txt", "patch a.scp OUT 0 0 --duration keep --times times.txt"),
         ("calls.txt", "replay a.scp calls.txt --out OUT"),
+        ("data.bin", &format!("dsk make data.bin OUT {MAKE}")),
     ] {
         let before = bench.get(name);
         std::os::unix::fs::symlink(name, bench.path("soft")).expect("a symbolic link");
@@ -106,7 +111,9 @@ fn no_file_that_is_read_is_replaced() {
 fn a_file_that_is_standard_input_is_not_replaced() {
     let bench = Bench::with_words();
     bench.put("calls.txt", b"validate\n");
+    bench.put("data.bin", &[7; 512]);
     for (name, line, message) in [
+        ("data.bin", &*format!("dsk make - data.bin --force {MAKE}"), "the command reads this file"),
         ("words.bin", "patch a.scp words.bin 0 0 --duration keep --words - --force", "the command reads this file"),
         ("calls.txt", "replay a.scp - --out calls.txt --force", "the command reads this file"),
         ("a.scp", "plot - 0 0 a.scp --force", "this is the image itself"),
@@ -152,11 +159,12 @@ mod rights {
     const NOBODY: u32 = 65_534;
 
     /// What each command does to a file that it replaces.
-    const LINES: [(&str, &str); 6] = [
+    const LINES: [(&str, &str); 7] = [
         ("b", "patch a.scp b 0 0 --duration keep --words words.bin --force"),
         ("b", "replay a.scp calls.txt --out b --force"),
         ("b", "plot a.scp 0 0 b --force"),
         ("b", "dsk sector a.dsk 0 0 0 --data b --force"),
+        ("b", "dsk make data.bin b --tracks 1 --sectors 1 --force"),
         ("a.scp", "patch a.scp a.scp 0 0 --duration 1 --words words.bin --in-place"),
         ("a.scp", "replay a.scp calls.txt --out a.scp --in-place"),
     ];
@@ -166,6 +174,7 @@ mod rights {
         let bench = Bench::with_words();
         bench.put("calls.txt", b"rewrite 0 0 1 -\n");
         bench.put("a.dsk", &dsk::example::image());
+        bench.put("data.bin", &[7; 512]);
         bench.put("b", b"precious");
         bench.names().iter().for_each(|name| set_mode(&bench, name, 0o644));
         bench
@@ -191,12 +200,12 @@ mod rights {
     fn a_new_file_has_the_mode_of_the_image() {
         let bench = bench();
         for (index, mode) in [0o600, 0o444, 0o640, 0o4755, 0o2755].into_iter().enumerate() {
-            set_mode(&bench, "a.scp", mode);
-            set_mode(&bench, "a.dsk", mode);
+            ["a.scp", "a.dsk", "data.bin"].iter().for_each(|name| set_mode(&bench, name, mode));
             bench.passes(&format!("patch a.scp p{index} 0 0 --duration keep --words words.bin --undo u{index}"));
             bench.passes(&format!("replay a.scp calls.txt --out r{index}"));
             bench.passes(&format!("dsk sector a.dsk 0 0 0 --data s{index}"));
-            for name in ["p", "u", "r", "s"] {
+            bench.passes(&format!("dsk make data.bin m{index} {MAKE}"));
+            for name in ["p", "u", "r", "s", "m"] {
                 assert_eq!(rights(&bench, &format!("{name}{index}")).2, mode & 0o777, "{name}");
             }
         }
@@ -206,12 +215,14 @@ mod rights {
     fn a_new_file_has_the_usual_mode_where_the_image_is_no_regular_file() {
         let bench = bench();
         set_mode(&bench, "a.dsk", 0o604);
+        set_mode(&bench, "data.bin", 0o604);
         let script = "umask 027
             cat a.dsk | \"$0\" dsk sector - 0 0 0 --data piped && \"$0\" dsk sector - 0 0 0 --data regular < a.dsk || exit
+            cat data.bin | \"$0\" dsk make - m --tracks 1 --sectors 1 && \"$0\" dsk make - n --tracks 1 --sectors 1 < data.bin || exit
             mkfifo pipe && { cat a.scp > pipe 2> /dev/null & } && \"$0\" patch pipe p 0 0 --duration keep --words words.bin --undo u";
         let run = shell(&bench, "sh", &[], script);
         assert_eq!((run.status, run.err.as_str()), (0, ""), "{run:?}");
-        for (name, mode) in [("piped", 0o640), ("regular", 0o604), ("p", 0o640), ("u", 0o640)] {
+        for (name, mode) in [("piped", 0o640), ("regular", 0o604), ("m", 0o640), ("n", 0o604), ("p", 0o640), ("u", 0o640)] {
             assert_eq!(rights(&bench, name).2, mode, "{name}");
         }
         let (input, mut far) = UnixStream::pair().expect("two sockets");
@@ -246,6 +257,23 @@ mod rights {
             set_mode(&bench, name, 0o444);
             bench.fails(line, 3, &format!("{name}: it is write-protected, so it is not replaced"));
             assert_eq!((bench.get(name), bench.names(), rights(&bench, name).2), (before, names, 0o444));
+        }
+    }
+
+    #[test]
+    fn a_folder_that_may_not_be_written_gets_nothing() {
+        let bench = bench();
+        fs::create_dir(bench.path("closed")).expect("a folder");
+        set_mode(&bench, "closed", 0o555);
+        for line in ["dsk sector a.dsk 0 0 0 --data closed/new", "dsk make data.bin closed/new --tracks 1 --sectors 1"] {
+            let mut command = bench.command(line);
+            if is_root(&bench) {
+                command.uid(NOBODY).gid(NOBODY);
+            }
+            let Ok(done) = command.output() else { return }; // The folder of the command is closed to others.
+            let run = Run::of(done);
+            assert!(run.status == 3 && run.err.contains("closed/new: cannot be written: Permission denied"), "{line}: {run:?}");
+            assert_eq!(fs::read_dir(bench.path("closed")).expect("the folder").count(), 0, "{line}");
         }
     }
 

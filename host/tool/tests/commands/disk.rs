@@ -1,6 +1,7 @@
 //! The commands for DSK images.
 
 mod list;
+mod make;
 mod reasons;
 mod sector;
 mod show;

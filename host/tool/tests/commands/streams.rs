@@ -27,10 +27,14 @@ const DISK_LINES: [&str; 6] = [
     "dsk sector FILE 0 0 0 --data out.bin --force",
 ];
 
+/// A run of the command that makes a DSK image, on data.
+const MAKE_LINE: &str = "dsk make FILE out.dsk --tracks 1 --sectors 1 --force";
+
 /// A bench with all that the lines name.
 fn bench() -> Bench {
     let bench = Bench::with_words();
     bench.put("a.dsk", &dsk::example::image());
+    bench.put("a.bin", &[7; 512]);
     bench.put("calls.txt", b"validate\nheader\n");
     bench
 }
@@ -45,9 +49,9 @@ fn disk_lines(file: &str) -> impl Iterator<Item = String> + '_ {
     DISK_LINES.into_iter().map(move |line| line.replace("FILE", file))
 }
 
-/// All lines, each on its image.
+/// All lines, each on its image or its data.
 fn all_lines() -> impl Iterator<Item = String> {
-    lines("a.scp").chain(disk_lines("a.dsk"))
+    lines("a.scp").chain(disk_lines("a.dsk")).chain([MAKE_LINE.replace("FILE", "a.bin")])
 }
 
 #[test]
@@ -55,7 +59,7 @@ fn a_file_that_cannot_be_read_gives_3() {
     let bench = bench();
     let names = bench.names();
     for (file, message) in [("none.scp", "none.scp: No such file"), (".", ".: Is a directory"), ("a.scp/b", "a.scp/b: Not a directory")] {
-        for line in lines(file).chain(disk_lines(file)) {
+        for line in lines(file).chain(disk_lines(file)).chain([MAKE_LINE.replace("FILE", file)]) {
             let run = bench.run(&line);
             assert!(run.status == 3 && (run.out + &run.err).contains(message), "{line}: {}", run.status);
         }
@@ -110,8 +114,8 @@ fn a_wrong_command_line_gives_2() {
     let names = bench.names();
     for line in all_lines() {
         let name = line.split(" a.").next().unwrap_or_default();
-        let hint = format!("; see \"fluxproof help {name}\"");
-        bench.fails(name, 2, &format!("{name}: FILE is missing{hint}"));
+        let (first, hint) = (if name == "dsk make" { "DATA" } else { "FILE" }, format!("; see \"fluxproof help {name}\""));
+        bench.fails(name, 2, &format!("{name}: {first} is missing{hint}"));
         bench.fails(&format!("{line} --frobnicate"), 2, &format!("unknown option \"--frobnicate\"{hint}"));
         if !name.ends_with("validate") {
             bench.fails(&format!("{line} one two"), 2, &format!("{name}: unexpected argument \"one\" after "));
@@ -222,15 +226,17 @@ fn a_full_disk_changes_nothing() {
         \"$0\" plot a.scp 0 0 full/old --force; echo $?
         \"$0\" dsk sector a.dsk 0 0 0 --data full/old --force; echo $?
         \"$0\" dsk sector a.dsk 0 0 0 --data full/new; echo $?
+        \"$0\" dsk make a.bin full/old --tracks 1 --sectors 1 --force; echo $?
+        \"$0\" dsk make a.bin full/new --tracks 1 --sectors 1; echo $?
         \"$0\" patch a.scp full/new 0 0 --duration 1 --words words.bin --undo undo.txt; echo $?
         \"$0\" patch a.scp new.scp 0 0 --duration 1 --words words.bin --undo full/undo.txt; echo $?
         ls -A full; cat full/old";
     let run = shell(&bench, "unshare", &["-rm", "sh"], script);
     // Where mounting is not allowed, the limit on the size of files is all that is tested.
     if run.status == 0 {
-        assert_eq!(run.out, "3\n3\n3\n3\n3\n3\n3\nold\nprecious", "{run:?}");
-        assert_eq!(run.err.matches(": cannot be written: No space left on device").count(), 7, "{run:?}");
-        assert_eq!(bench.names(), ["a.dsk", "a.scp", "calls.txt", "full", "words.bin"]);
+        assert_eq!(run.out, "3\n".repeat(9) + "old\nprecious", "{run:?}");
+        assert_eq!(run.err.matches(": cannot be written: No space left on device").count(), 9, "{run:?}");
+        assert_eq!(bench.names(), ["a.bin", "a.dsk", "a.scp", "calls.txt", "full", "words.bin"]);
     } else {
         println!("no disk can be mounted: {run:?}");
     }

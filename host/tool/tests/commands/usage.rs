@@ -3,8 +3,8 @@
 use crate::bench::{Bench, Run};
 
 /// All commands.
-const COMMANDS: [&str; 11] =
-    ["list", "validate", "show", "read", "patch", "replay", "plot", "dsk list", "dsk validate", "dsk show", "dsk sector"];
+const COMMANDS: [&str; 12] =
+    ["list", "validate", "show", "read", "patch", "replay", "plot", "dsk list", "dsk validate", "dsk show", "dsk sector", "dsk make"];
 
 #[test]
 fn help_is_there_for_all() {
