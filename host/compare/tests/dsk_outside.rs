@@ -1,7 +1,10 @@
 //! DSK images that other programs made: what those programs say of every sector, library and reader answer too. `outside/dsk/README.md`
 //! tells where the values come from.
 
+mod dsk_rows;
+
 use dsk_reader as reader;
+use dsk_rows::{by_library, by_reader, fnv1a, Row};
 use scp_compare::dsk_cases::agree;
 use std::collections::BTreeMap;
 use std::path::Path;
@@ -16,19 +19,6 @@ const MARKED: &str = "st-6x256";
 
 /// The images that floptool does not convert.
 const NOT_CONVERTED: [&str; 3] = ["n1-29x256", "n6-1x8192", OTHER];
-
-/// A sector: track, side and index, then C, H, R and N, and the length and the FNV-1a of its data.
-#[derive(Clone, Copy, Debug, PartialEq, Eq, PartialOrd, Ord)]
-struct Row {
-    at: [u32; 3],
-    identity: [u8; 4],
-    length: u64,
-    hash: u64,
-}
-
-fn fnv1a(bytes: &[u8]) -> u64 {
-    bytes.iter().fold(0xCBF2_9CE4_8422_2325, |hash, &byte| (hash ^ u64::from(byte)).wrapping_mul(0x0000_0100_0000_01B3))
-}
 
 fn text(file: &str) -> String {
     std::fs::read_to_string(Path::new(FOLDER).join(file)).unwrap_or_else(|error| panic!("{file}: {error}"))
@@ -77,36 +67,6 @@ fn due(name: &str) -> Vec<Row> {
         true => listed(&short),
         false => listed(&format!("{name}.sectors")),
     }
-}
-
-/// Each sector of an image of so many tracks and sides, and of as many sectors as a block is said to have.
-fn each<T>([tracks, sides]: [u8; 2], sectors: impl Fn(u32, u32) -> u8, row: impl Fn([u32; 3]) -> T) -> Vec<T> {
-    let blocks = (0..tracks.into()).flat_map(|track| (0..sides.into()).map(move |side| (track, side)));
-    blocks.flat_map(|(track, side)| (0..sectors(track, side).into()).map(move |index| [track, side, index])).map(row).collect()
-}
-
-/// The sectors by the library.
-fn by_library(image: &[u8]) -> Vec<Row> {
-    let found = dsk::geometry(image).unwrap();
-    let row = |at: [u32; 3]| {
-        let [track, side, index] = at;
-        let sector = dsk::sector(image, track, side, index).unwrap();
-        let identity = [sector.cylinder, sector.head, sector.id, sector.size_code];
-        Row { at, identity, length: sector.length, hash: fnv1a(dsk::data(image, track, side, index).unwrap()) }
-    };
-    each([found.tracks, found.sides], |track, side| dsk::block(image, track, side).unwrap().sectors, row)
-}
-
-/// The sectors by the reader.
-fn by_reader(image: &[u8]) -> Vec<Row> {
-    let found = reader::geometry(image).unwrap();
-    let row = |at: [u32; 3]| {
-        let [track, side, index] = at;
-        let sector = reader::sector(image, track, side, index).unwrap();
-        let identity = [sector.cylinder, sector.head, sector.id, sector.size_code];
-        Row { at, identity, length: sector.length, hash: fnv1a(&reader::data(image, track, side, index).unwrap()) }
-    };
-    each([found.tracks, found.sides], |track, side| reader::block(image, track, side).unwrap().sectors, row)
 }
 
 #[test]

@@ -1,5 +1,6 @@
 /* Calls the disk code of Fuse, the Free Unix Spectrum Emulator, from a command
-   line: reads a disk image of any kind it knows and writes it as CPC DSK.
+   line: reads a disk image of any kind it knows and writes it as the kind that the
+   ending of OUT tells: .dsk is CPC DSK, .log a text with the data of every sector.
    Everything about disk images is Fuse's own peripherals/disk/disk.c and crc.c;
    here are only the few functions which that file takes from the emulator.
 
@@ -45,7 +46,7 @@ int main( int argc, char **argv )
   if( argc != 3 || libspectrum_init() ) return 2;
   e = disk_open( &d, argv[1], 0, 0 );
   if( e ) { fprintf( stderr, "open: %s\n", disk_strerror( e ) ); return 1; }
-  d.type = DISK_CPC;
+  d.type = DISK_TYPE_NONE;
   e = disk_write( &d, argv[2] );
   if( e ) { fprintf( stderr, "write: %s\n", disk_strerror( e ) ); return 1; }
   return 0;
