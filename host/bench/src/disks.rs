@@ -1,7 +1,7 @@
-//! DSK images: validating, and asking for a sector.
+//! DSK images: validating, asking for a sector, and writing.
 
 use crate::{beside, code, plain_dsk, ratio};
-use dsk::raw;
+use dsk::{raw, Layout};
 use std::hint::black_box;
 
 /// What an image has: tracks, sides, sectors a block, and their size code.
@@ -28,6 +28,11 @@ const LARGEST: Disk = Disk { tracks: 255, sides: 2, sectors: 15, code: 5 };
 impl Disk {
     fn name(&self) -> String {
         format!("{} x {} blocks of {} sectors, code {}", self.tracks, self.sides, self.sectors, self.code)
+    }
+
+    fn layout(&self) -> Layout {
+        let [tracks, sides, sectors, size_code] = [self.tracks, self.sides, self.sectors, self.code].map(u32::from);
+        Layout { tracks, sides, sectors, size_code, gap: 0x4E, filler: 0xE5 }
     }
 
     /// The image; its blocks are as large as their data want, or of 65,280 bytes.
@@ -71,6 +76,47 @@ pub fn validate(rounds: usize) {
     }
 }
 
+/// The creator of the images that are written.
+const CREATOR: &[u8] = b"a yardstick   ";
+
+/// What is written of a disk: its layout, its data, and room for its image.
+struct Written {
+    layout: Layout,
+    data: Vec<u8>,
+    image: Vec<u8>,
+}
+
+impl Written {
+    fn new(disk: &Disk) -> Written {
+        let layout = disk.layout();
+        let data = (0..layout.data_size().expect("a small number")).map(|i| (i % 251) as u8).collect();
+        Written { layout, data, image: vec![0; layout.image_size().expect("a small number")] }
+    }
+
+    /// The library writes it.
+    fn by_library(&mut self) -> u64 {
+        let mut out = [0];
+        raw::write(CREATOR, self.layout, black_box(&self.data), black_box(&mut self.image), &mut out) + out[0]
+    }
+
+    /// Plain Rust writes it.
+    fn plainly(&mut self) -> u64 {
+        match plain_dsk::write(CREATOR, self.layout, black_box(&self.data), black_box(&mut self.image)) {
+            Ok(length) => length as u64,
+            refused => code(refused),
+        }
+    }
+}
+
+/// Writing whole disks.
+pub fn write(rounds: usize) {
+    for (disk, times) in [(CPC, 500), (DOUBLE, 100), (FULLEST, 50), (LARGEST, 1)] {
+        let [mut library, mut plain] = [Written::new(&disk), Written::new(&disk)];
+        ratio(&format!("write a DSK image: {}", disk.name()), rounds, times, || library.by_library(), || plain.plainly());
+        assert!(library.image == plain.image, "the two write the same image");
+    }
+}
+
 /// Asking for the last sector.
 pub fn question(rounds: usize) {
     for (disk, times) in [(CPC, 2000), (FULLEST, 100)] {
@@ -88,9 +134,9 @@ pub fn question(rounds: usize) {
     }
 }
 
-/// Validating fewer blocks, as many times as make for the same number in all.
+/// Validating and writing fewer blocks, as many times as make for the same number in all.
 pub fn growth(rounds: usize) {
-    let (most, times) = (FULLEST.image(false), 100);
+    let (most, mut written, times) = (FULLEST.image(false), Written::new(&FULLEST), 100);
     for (tracks, sides) in [(1, 1), (17, 2), (85, 2), (255, 1)] {
         let fewer = Disk { tracks, sides, ..FULLEST };
         let image = fewer.image(false);
@@ -98,5 +144,9 @@ pub fn growth(rounds: usize) {
         let first = (more_times, || raw::validate(black_box(&image)));
         let second = (times, || raw::validate(black_box(&most)));
         beside(&format!("validate a DSK image: {}", fewer.name()), rounds, first, second);
+        let mut less = Written::new(&fewer);
+        assert_eq!(less.by_library(), less.image.len() as u64, "the image is written");
+        let (first, second) = ((more_times, || less.by_library()), (times, || written.by_library()));
+        beside(&format!("write a DSK image: {}", fewer.name()), rounds, first, second);
     }
 }

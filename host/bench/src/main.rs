@@ -33,6 +33,7 @@ fn main() {
     rewriting(rounds);
     disks::validate(rounds);
     disks::question(rounds);
+    disks::write(rounds);
     say_columns("library's time for each revolution, beside 168 tracks of 255");
     growth(rounds);
     say_columns("library's time for each track block, beside 255 tracks of 2 sides");

@@ -1,6 +1,7 @@
-//! Validating and asking a DSK image in plain Rust, as one would write it: the yardstick. It checks all that the library checks.
+//! Validating, asking and writing a DSK image in plain Rust, as one would write it: the yardstick. It checks all that the library checks.
 
 use crate::plain::Refused;
+use dsk::Layout;
 
 /// Tracks, sides and track size.
 type Geometry = (u8, u8, usize);
@@ -77,4 +78,48 @@ pub fn sector(image: &[u8], track: u32, side: u32, index: u32) -> Result<Sector,
     let entry = 0x18 + 8 * index;
     let length = sector_size(info[0x14]);
     Ok((info[entry..entry + 6].try_into().expect("six bytes"), at + 256 + index * length, length))
+}
+
+/// Writes an image, and gives its length: refusals 41, 15.
+pub fn write(creator: &[u8], layout: Layout, data: &[u8], image: &mut [u8]) -> Result<usize, Refused> {
+    let Layout { tracks, sides, sectors, size_code, gap, filler } = layout;
+    let wrong = !(1..=255).contains(&tracks) || !(1..=2).contains(&sides) || sectors > 29 || size_code > 5 || gap > 255 || filler > 255;
+    if wrong || creator.len() != 14 {
+        return Err((41, 0));
+    }
+    let (blocks, part) = (tracks as usize * sides as usize, sectors as usize * (128 << size_code));
+    let size = 256 + part;
+    if size > 0xFFFF || data.len() != blocks * part {
+        return Err((41, 0));
+    }
+    let length = 256 + blocks * size;
+    let (header, rest) = image.get_mut(..length).ok_or((15, 0))?.split_at_mut(256);
+    header[..34].copy_from_slice(b"MV - CPCEMU Disk-File\r\nDisk-Info\r\n");
+    header[34..48].copy_from_slice(creator);
+    header[0x30] = tracks as u8;
+    header[0x31] = sides as u8;
+    header[0x32..0x34].copy_from_slice(&(size as u16).to_le_bytes());
+    header[0x34..].fill(0);
+    let mut blocks = rest.chunks_exact_mut(size);
+    let mut data = data;
+    for track in 0..tracks as u8 {
+        for side in 0..sides as u8 {
+            let (info, place) = blocks.next().expect("the image has room for all blocks").split_at_mut(256);
+            write_info(info, &layout, track, side);
+            let (here, later) = data.split_at(part);
+            place.copy_from_slice(here);
+            data = later;
+        }
+    }
+    Ok(length)
+}
+
+fn write_info(info: &mut [u8], layout: &Layout, track: u8, side: u8) {
+    let (code, sectors) = (layout.size_code as u8, layout.sectors as u8);
+    info.fill(0);
+    info[..12].copy_from_slice(b"Track-Info\r\n");
+    info[0x10..0x18].copy_from_slice(&[track, side, 0, 0, code, sectors, layout.gap as u8, layout.filler as u8]);
+    for (entry, id) in info[0x18..].chunks_exact_mut(8).zip(1..=sectors) {
+        entry[..4].copy_from_slice(&[track, side, id, code]);
+    }
 }
