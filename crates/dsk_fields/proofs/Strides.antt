@@ -2,10 +2,10 @@
 use Prim.Native.Nat.{ℕ, _+_, _*_, _<_, _≤_}
 use mathlib.Core.Path.{_≡_, ap}
 use mathlib.Core.List.{List}
-use native.Mathlib.Nat.{zero-mul, add-mul, mul-le-mul, mul-le-mul-right}
+use native.Mathlib.Nat.{add-mul, mul-le-mul, mul-le-mul-right}
 use native.Mathlib.Omega.{arith}
 use lib.ListN.{length}
-use Rattle.dsk_fields.specs.Fields.{infoSize, tracks, sides, trackSize, blockIndex, blockOf, imageSize}
+use Rattle.dsk_fields.specs.Fields.{infoSize, tracks, sides, trackSize, blockOf, imageSize}
 
 pub stride : {i n : ℕ} (s : ℕ) → i < n → i * s + s ≤ n * s
 stride {i} {n} s h =
@@ -17,38 +17,48 @@ stride {i} {n} s h =
 pub inside : {t s : ℕ} (T S : ℕ) → t < T → s < S → t * S + s < T * S
 inside T S h k = let m = stride S h in omega arith
 
--- the block of track t and side s ends at or below the end of the last
-pub block-ends : (b : List ℕ) {t s : ℕ} → imageSize b ≤ length b → t < tracks b → s < sides b → blockOf b t s + trackSize b ≤ length b
-block-ends b {t} {s} whole h k =
-    let below : blockIndex b t s < tracks b * sides b = inside (tracks b) (sides b) h k in
-    let m = stride (trackSize b) below in
-    omega arith
+-- ---- the parts of T tracks of S sides, each of so many bytes, one after the other
 
--- the next side's block starts where this one ends, and the next track's as far on as its sides take, all in the image
+module _ (S size : ℕ) where
+  -- the part of track t and side s ends at or below the end of the last
+  pub part-ends : {t s : ℕ} (T : ℕ) → t < T → s < S → (t * S + s) * size + size ≤ T * S * size
+  part-ends T h k = stride size (inside T S h k)
+
+  -- the next side's part starts where this one ends, and the next track's as far on as its sides take
+  pub side-after : (t s : ℕ) → infoSize + (t * S + s) * size + size ≡ infoSize + (t * S + (s + 1)) * size
+  side-after t s =
+      let e = add-mul (t * S + s) 1 size in
+      let f : t * S + (s + 1) ≡ t * S + s + 1 = omega arith in
+      let g = ap (λ (i : ℕ). i * size) f in
+      omega arith
+
+  pub track-after : (t : ℕ) → infoSize + (t * S + 0) * size + S * size ≡ infoSize + ((t + 1) * S + 0) * size
+  track-after t =
+      let e = add-mul (t * S + 0) S size in
+      let f = add-mul t 1 S in
+      let g : (t + 1) * S + 0 ≡ t * S + 0 + S = omega arith in
+      let h = ap (λ (i : ℕ). i * size) g in
+      omega arith
+
+  pub first-part : infoSize ≡ infoSize + (0 * S + 0) * size
+  first-part =
+      let e : 0 * S + 0 ≡ 0 = omega arith in
+      let f = ap (λ (i : ℕ). i * size) e in
+      omega arith
+
+-- ---- the blocks of an image
+
+pub block-ends : (b : List ℕ) {t s : ℕ} → imageSize b ≤ length b → t < tracks b → s < sides b → blockOf b t s + trackSize b ≤ length b
+block-ends b whole h k = let m = part-ends (sides b) (trackSize b) (tracks b) h k in omega arith
+
 pub next-side : (b : List ℕ) (t s : ℕ) → blockOf b t s + trackSize b ≡ blockOf b t (s + 1)
-next-side b t s =
-    let e = add-mul (t * sides b + s) 1 (trackSize b) in
-    let f : t * sides b + (s + 1) ≡ t * sides b + s + 1 = omega arith in
-    let g = ap (λ (i : ℕ). i * trackSize b) f in
-    omega arith
+next-side b = side-after (sides b) (trackSize b)
 
 pub first-track : (b : List ℕ) → infoSize ≡ blockOf b 0 0
-first-track b =
-    let e = zero-mul (sides b) in
-    let f : 0 * sides b + 0 ≡ 0 = omega arith in
-    let g = ap (λ (i : ℕ). i * trackSize b) f in
-    let h = zero-mul (trackSize b) in
-    omega arith
+first-track b = first-part (sides b) (trackSize b)
 
 pub next-track : (b : List ℕ) (t : ℕ) → blockOf b t 0 + sides b * trackSize b ≡ blockOf b (t + 1) 0
-next-track b t =
-    let e = add-mul (t * sides b) (sides b) (trackSize b) in
-    let f = add-mul t 1 (sides b) in
-    let g : (t + 1) * sides b + 0 ≡ t * sides b + sides b = omega arith in
-    let h = ap (λ (i : ℕ). i * trackSize b) g in
-    let z : t * sides b + 0 ≡ t * sides b = omega arith in
-    let y = ap (λ (i : ℕ). i * trackSize b) z in
-    omega arith
+next-track b = track-after (sides b) (trackSize b)
 
 pub track-ends : (b : List ℕ) {t : ℕ} → imageSize b ≤ length b → t < tracks b → blockOf b (t + 1) 0 ≤ length b
 track-ends b {t} whole h =

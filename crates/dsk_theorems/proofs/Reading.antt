@@ -14,7 +14,7 @@ use Rattle.dsk_layout.specs.Layouts.{trackData, trackLength, imageLength, Writa
 use Rattle.dsk_write.specs.Images.{joinedFrom, openingText, geometryBytes, headerBytes, entryBytes, numberBytes, listBytes, infoBytes, blockOffset, dataOfBlock, blockBytes, trackBytes, imageBytes}
 use Rattle.dsk_write.proofs.Joined.{part-at}
 use Rattle.dsk_write.proofs.Sizes.{header-length, info-length, block-length, track-length, image-length}
-use Rattle.dsk_theorems.proofs.Slices.{byte-behind, drop-behind, front, within, place}
+use Rattle.dsk_theorems.proofs.Slices.{byte-behind, drop-behind, front, within, sector-start}
 
 -- ---- the Disc Information Block, and what follows it
 
@@ -149,7 +149,7 @@ module _ (b : List ℕ) (l : Layout) (d : List ℕ) (e t s i : ℕ) (few : l .se
       ∙ front (dataOfBlock l d i) (h .more) (k * size) size (omega arith)
       ∙ within y (trackData l) (k * size) size (omega arith) a
       ∙ ap (take size) (drop-drop (k * size) (i * trackData l) d)
-      ∙ ap (λ (x : ℕ). take size (drop x d)) (place i (l .sectors) size k)
+      ∙ ap (λ (x : ℕ). take size (drop x d)) (sector-start i (l .sectors) size k)
 
 -- ---- all blocks
 

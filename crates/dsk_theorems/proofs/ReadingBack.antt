@@ -4,7 +4,7 @@ use mathlib.Core.Path.{_≡_, refl, sym, ap, _∙_, subst}
 use mathlib.Core.Logic.{inl, inr}
 use mathlib.Core.List.{List, [], append-nil}
 use mathlib.Core.Bool.{Bool, true, false}
-use native.Mathlib.Nat.{zero-mul, mul-assoc}
+use native.Mathlib.Nat.{add-zero, zero-add, zero-mul, mul-assoc}
 use native.Mathlib.Omega.{arith}
 use lib.ListN.{length, take, drop}
 use lib.Seq.{take-all}
@@ -175,24 +175,18 @@ module _ (c : List ℕ) (l : Layout) (d rest : List ℕ) (w : Writable l (length
       let size = sectorSize (l .code) in
       let a = (t * l .sides + s) * l .sectors in
       let e : (a + 0) * size ≡ (t * l .sides + s) * trackData l =
-      ap (λ (x : ℕ). x * size) (none-more a) ∙ mul-assoc (t * l .sides + s) (l .sectors) size in
+      ap (λ (x : ℕ). x * size) (add-zero a) ∙ mul-assoc (t * l .sides + s) (l .sectors) size in
       joined-same (dataPart b t s) (λ j. take size (drop ((a + j) * size) d)) 0 (l .sectors) (λ j q. data-is t s j h k (omega arith))
       ∙ stretches d size a 0 (l .sectors) ∙ ap (λ (x : ℕ). take (trackData l) (drop x d)) e
-    where
-      none-more : (n : ℕ) → n + 0 ≡ n
-      none-more n = omega arith
 
   track-joined : (t : ℕ) → t < l .tracks
       → joinedFrom (λ s. joinedFrom (dataPart b t s) 0 (l .sectors)) 0 (l .sides) ≡ take (l .sides * trackData l) (drop (t * (l .sides * trackData l)) d)
   track-joined t h =
       let e : (t * l .sides + 0) * trackData l ≡ t * (l .sides * trackData l) =
-      ap (λ (x : ℕ). x * trackData l) (none-more (t * l .sides)) ∙ mul-assoc t (l .sides) (trackData l) in
+      ap (λ (x : ℕ). x * trackData l) (add-zero (t * l .sides)) ∙ mul-assoc t (l .sides) (trackData l) in
       joined-same (λ s. joinedFrom (dataPart b t s) 0 (l .sectors)) (λ s. take (trackData l) (drop ((t * l .sides + s) * trackData l) d)) 0 (l .sides)
       (λ s k. block-joined t s h (omega arith))
       ∙ stretches d (trackData l) (t * l .sides) 0 (l .sides) ∙ ap (λ (x : ℕ). take (l .sides * trackData l) (drop x d)) e
-    where
-      none-more : (n : ℕ) → n + 0 ≡ n
-      none-more n = omega arith
 
   all-joined : allSectors b l ≡ d
   all-joined =
@@ -202,11 +196,8 @@ module _ (c : List ℕ) (l : Layout) (d rest : List ℕ) (w : Writable l (length
       let m = mul-assoc (l .tracks) (l .sides) (trackData l) in
       let all : length d ≤ l .tracks * size = omega arith in
       joined-same (λ t. joinedFrom (λ s. joinedFrom (dataPart b t s) 0 (l .sectors)) 0 (l .sides)) (λ t. take size (drop ((0 + t) * size) d)) 0 (l .tracks)
-      (λ t h. track-joined t (omega arith) ∙ ap (λ (x : ℕ). take size (drop (x * size) d)) (sym (from-zero t)))
+      (λ t h. track-joined t (omega arith) ∙ ap (λ (x : ℕ). take size (drop (x * size) d)) (sym (zero-add t)))
       ∙ stretches d size 0 0 (l .tracks) ∙ ap (λ (x : ℕ). take (l .tracks * size) (drop x d)) zero ∙ take-all (l .tracks * size) d all
-    where
-      from-zero : (n : ℕ) → 0 + n ≡ n
-      from-zero n = omega arith
 
   reads-back : ReadsBack b c l d
   reads-back =

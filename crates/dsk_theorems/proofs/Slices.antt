@@ -2,7 +2,7 @@
 use Prim.Native.Nat.{ℕ, zero, suc, _+_, _*_, _<_, _≤_}
 use mathlib.Core.Path.{_≡_, refl, sym, ap, ap₂, _∙_}
 use mathlib.Core.List.{List, _++_}
-use native.Mathlib.Nat.{add-mul, mul-assoc}
+use native.Mathlib.Nat.{add-assoc, add-mul, mul-assoc}
 use native.Mathlib.Omega.{arith}
 use lib.ListN.{length, take, drop, getD, length-drop, take-append-drop}
 use lib.Seq.{take-append-le, drop-append-le, getD-drop, drop-drop, length-take-le, take-add}
@@ -32,9 +32,9 @@ within y size m n h k =
     let l = length-take-le size y k in
     sym (front (take size y) (drop size y) m n (omega arith)) ∙ ap (λ (x : List ℕ). take n (drop m x)) (take-append-drop size y)
 
--- the place of sector k of block i among all sectors
-pub place : (i c size k : ℕ) → i * (c * size) + k * size ≡ (i * c + k) * size
-place i c size k = let e = add-mul (i * c) k size in let f = mul-assoc i c size in omega arith
+-- where sector k of block i starts among all sectors
+pub sector-start : (i c size k : ℕ) → i * (c * size) + k * size ≡ (i * c + k) * size
+sector-start i c size k = let e = add-mul (i * c) k size in let f = mul-assoc i c size in omega arith
 
 -- ---- joined again
 
@@ -50,10 +50,7 @@ unfolding joinedFrom
 stretches d size a i zero = let e : 0 * size ≡ 0 = omega arith in ap (λ (m : ℕ). take m (drop ((a + i) * size) d)) (sym e)
 stretches d size a i (suc n) =
     let here = drop ((a + i) * size) d in
-    let e : (a + (i + 1)) * size ≡ (a + i) * size + size = omega (arith, add-mul (a + i) 1 size, ap (λ (m : ℕ). m * size) (next a i)) in
+    let e : (a + (i + 1)) * size ≡ (a + i) * size + size = omega (arith, add-mul (a + i) 1 size, ap (λ (m : ℕ). m * size) (sym (add-assoc a i 1))) in
     let m : suc n * size ≡ size + n * size = omega (arith, add-mul n 1 size) in
     ap (λ (r : List ℕ). take size here ++ r) (stretches d size a (i + 1) n ∙ ap (λ (j : ℕ). take (n * size) (drop j d)) e ∙ sym (ap (take (n * size)) (drop-drop size ((a + i) * size) d)))
     ∙ sym (take-add size (n * size) here) ∙ ap (λ (j : ℕ). take j here) (sym m)
-  where
-    next : (a i : ℕ) → a + (i + 1) ≡ a + i + 1
-    next a i = omega arith

@@ -1,14 +1,14 @@
 -- How long the parts of an image are, and where its blocks and their data lie.
 use Prim.Native.Nat.{ℕ, _+_, _-_, _*_, _<_, _≤_}
-use mathlib.Core.Path.{_≡_, refl, ap, _∙_}
+use mathlib.Core.Path.{_≡_, refl, _∙_}
 use mathlib.Core.List.{List, [], _∷_, _++_}
-use native.Mathlib.Nat.{add-mul, mul-assoc, mul-comm}
+use native.Mathlib.Nat.{mul-assoc, mul-comm}
 use native.Mathlib.Omega.{arith}
 use lib.ListN.{length, take, drop, replicate, length-append, length-replicate, length-drop}
 use lib.Seq.{length-take-le}
 use Rattle.octets.proofs.Numbers.{le-length}
 use Rattle.dsk_fields.specs.Fields.{infoSize, blockText}
-use Rattle.dsk_fields.proofs.Strides.{stride, inside}
+use Rattle.dsk_fields.proofs.Strides.{part-ends}
 use Rattle.dsk_layout.specs.declared.Layout.{Layout}
 use Rattle.dsk_layout.specs.Layouts.{trackData, trackLength, blockCount, allData, imageLength, Writable}
 use Rattle.dsk_write.specs.Images.{filledUp, openingText, geometryBytes, headerBytes, entryBytes, numberBytes, listBytes, infoBytes, blockOffset, dataOfBlock, blockBytes, trackBytes, imageBytes, joinedFrom}
@@ -50,38 +50,12 @@ info-length l t s h =
 
 -- ---- the blocks
 
--- the next side's block stands where this one ends, and the next track's as far on as its sides take
-pub next-side : (l : Layout) (t s : ℕ) → blockOffset l t s + trackLength l ≡ blockOffset l t (s + 1)
-next-side l t s =
-    let e = add-mul (t * l .sides + s) 1 (trackLength l) in
-    let f : t * l .sides + (s + 1) ≡ t * l .sides + s + 1 = omega arith in
-    let g = ap (λ (i : ℕ). i * trackLength l) f in
-    omega arith
+-- a block lies in the image, and its data in the data
+pub block-within : (l : Layout) {t s : ℕ} → t < l .tracks → s < l .sides → blockOffset l t s + trackLength l ≤ imageLength l
+block-within l h k = let m = part-ends (l .sides) (trackLength l) (l .tracks) h k in omega arith
 
-pub next-track : (l : Layout) (t : ℕ) → blockOffset l t 0 + l .sides * trackLength l ≡ blockOffset l (t + 1) 0
-next-track l t =
-    let e = add-mul (t * l .sides + 0) (l .sides) (trackLength l) in
-    let f = add-mul t 1 (l .sides) in
-    let g : (t + 1) * l .sides + 0 ≡ t * l .sides + 0 + l .sides = omega arith in
-    let h = ap (λ (i : ℕ). i * trackLength l) g in
-    omega arith
-
-pub first-offset : (l : Layout) → blockOffset l 0 0 ≡ infoSize
-first-offset l =
-    let e : 0 * l .sides + 0 ≡ 0 = omega arith in
-    let f = ap (λ (i : ℕ). i * trackLength l) e in
-    omega arith
-
-module _ (l : Layout) {t s : ℕ} (h : t < l .tracks) (k : s < l .sides) where
-  index-below : t * l .sides + s < blockCount l
-  index-below = inside (l .tracks) (l .sides) h k
-
-  -- a block lies in the image, and its data in the data
-  pub block-within : blockOffset l t s + trackLength l ≤ imageLength l
-  block-within = let m = stride (trackLength l) index-below in omega arith
-
-  pub data-within : (t * l .sides + s) * trackData l + trackData l ≤ allData l
-  data-within = let m = stride (trackData l) index-below in omega arith
+pub data-within : (l : Layout) {t s : ℕ} → t < l .tracks → s < l .sides → (t * l .sides + s) * trackData l + trackData l ≤ allData l
+data-within l h k = part-ends (l .sides) (trackData l) (l .tracks) h k
 
 -- the offsets of the block and of its data, as they are reckoned from the layout's numbers
 pub located : (l : Layout) {t s a b c size track : ℕ} → t < l .tracks → s < l .sides → a ≡ t → b ≡ l .sides → c ≡ s → size ≡ trackData l

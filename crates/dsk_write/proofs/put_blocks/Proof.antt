@@ -1,12 +1,14 @@
 -- The loop's invariant: storing the tracks from this one on makes what storing all of them makes.
 use Prim.Native.Nat.{ℕ, _-_}
-use mathlib.Core.Path.{ap, _∙_}
+use mathlib.Core.Path.{sym, ap, _∙_}
 use native.Mathlib.Omega.{arith}
 use lib.Seq.{sets}
 use borrow.Author.Needs.{needs}
+use Rattle.dsk_fields.proofs.Strides.{track-after, first-part}
+use Rattle.dsk_layout.specs.Layouts.{trackLength}
 use Rattle.dsk_write.specs.Images.{joinedFrom, blockOffset, trackBytes}
 use Rattle.dsk_write.proofs.Stores.{Storing, store-start, store-next, store-end}
-use Rattle.dsk_write.proofs.Sizes.{track-length, next-track, first-offset}
+use Rattle.dsk_write.proofs.Sizes.{track-length}
 use Rattle.dsk_write.proofs.put_blocks.Statement.{statement}
 use Rattle.dsk_write.proofs.put_blocks.Tie as tie
 
@@ -39,7 +41,7 @@ loop-again c =
     let a = start .args in
     let l = at-loop .loop in
     let size = track-length (a .layout) (a .content .now) (start .pre .few) (start .pre .all) (at-if1 .if1 .taken) in
-    let next = next-track (a .layout) (l .track) in
+    let next = track-after (a .layout .sides) (trackLength (a .layout)) (l .track) in
     store-next (trackBytes (a .layout) (a .content .now)) (λ (t : ℕ). blockOffset (a .layout) t 0) (a .layout .tracks) (a .image .now) (l .inv) (at-if1 .if1 .taken) (omega arith) (at-put-track .put-track .ensures)
 
 same-length : tie.Need-same-length Inv-loop μ-loop
@@ -51,7 +53,7 @@ returns c =
     let start = at-loop .before .before .before in
     let a = start .args in
     store-end (trackBytes (a .layout) (a .content .now)) (λ (t : ℕ). blockOffset (a .layout) t 0) (a .layout .tracks) (a .image .now) (at-loop .loop .inv) (c .if1 .left)
-    ∙ ap (λ (i : ℕ). sets (a .image .now) i (joinedFrom (trackBytes (a .layout) (a .content .now)) 0 (a .layout .tracks))) (first-offset (a .layout))
+    ∙ ap (λ (i : ℕ). sets (a .image .now) i (joinedFrom (trackBytes (a .layout) (a .content .now)) 0 (a .layout .tracks))) (sym (first-part (a .layout .sides) (trackLength (a .layout))))
 
 pub put-blocks-spec : {M : Type 1} → statement M
 put-blocks-spec =

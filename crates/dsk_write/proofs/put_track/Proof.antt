@@ -2,9 +2,11 @@
 use Prim.Native.Nat.{_-_}
 use native.Mathlib.Omega.{arith}
 use borrow.Author.Needs.{needs}
+use Rattle.dsk_fields.proofs.Strides.{side-after}
+use Rattle.dsk_layout.specs.Layouts.{trackLength}
 use Rattle.dsk_write.specs.Images.{blockOffset, blockBytes}
 use Rattle.dsk_write.proofs.Stores.{Storing, store-start, store-next, store-end}
-use Rattle.dsk_write.proofs.Sizes.{block-length, next-side}
+use Rattle.dsk_write.proofs.Sizes.{block-length}
 use Rattle.dsk_write.proofs.put_track.Statement.{statement}
 use Rattle.dsk_write.proofs.put_track.Tie as tie
 
@@ -39,7 +41,7 @@ loop-again c =
     let a = start .args in
     let l = at-loop .loop in
     let size = block-length (a .layout) (a .content .now) (start .pre .0 .few) (start .pre .0 .all) (start .pre .1) (at-if1 .if1 .taken) in
-    let next = next-side (a .layout) (a .track) (l .side) in
+    let next = side-after (a .layout .sides) (trackLength (a .layout)) (a .track) (l .side) in
     store-next (blockBytes (a .layout) (a .content .now) (a .track)) (blockOffset (a .layout) (a .track)) (a .layout .sides) (a .image .now) (l .inv) (at-if1 .if1 .taken) (omega arith)
     (at-put-block .put-block .ensures)
 
