@@ -10,6 +10,7 @@ use borrow.Author.Tests.{eq-eqb, ne-eqb}
 use Rattle.refusals.specs.declared.Refusal.{Refusal}
 use Rattle.refusals.specs.Refusals.{refusal, passes, refuseIf}
 use Rattle.refusals.specs.Refusals as refusals
+use Rattle.scp_fields.specs.declared.Edition.{Edition}
 use Rattle.scp_fields.specs.Header.{storedSum, trackEntry}
 use Rattle.refusals.proofs.Chain.{first-here, first-next}
 use Rattle.scp_open.specs.Opening.{openFault}
@@ -36,19 +37,19 @@ module _ (q : Refusal) (a : Answer) where
 
 -- ---- validating
 
-module _ (b : List ℕ) where
-  pub validate-open : {f : Refusal} → f ≡ openFault b → (f .number ≡ 0 → ⊥) → f ≡ validateFault b
+module _ (v : Edition) (b : List ℕ) where
+  pub validate-open : {f : Refusal} → f ≡ openFault v b → (f .number ≡ 0 → ⊥) → f ≡ validateFault v b
   unfolding validateFault
-  validate-open e n = first-here (openFault b) _ e n
+  validate-open e n = first-here (openFault v b) _ e n
 
-  sum-then : openFault b .number ≡ 0 → refuseIf (badSum b) (refusal 12 0) refusals.none ≡ validateFault b
+  sum-then : openFault v b .number ≡ 0 → refuseIf (badSum b) (refusal 12 0) refusals.none ≡ validateFault v b
   unfolding validateFault
-  sum-then z = first-next (openFault b) _ refl z refl
+  sum-then z = first-next (openFault v b) _ refl z refl
 
-  pub validate-sum : openFault b .number ≡ 0 → (storedSum b ≡ wantedSum b → ⊥) → refusal 12 0 ≡ validateFault b
+  pub validate-sum : openFault v b .number ≡ 0 → (storedSum b ≡ wantedSum b → ⊥) → refusal 12 0 ≡ validateFault v b
   validate-sum z n = unfold refuseIf in (sym (simp (ne-eqb (storedSum b) (wantedSum b) n)) ∙ sum-then z)
 
-  pub validate-passes : openFault b .number ≡ 0 → storedSum b ≡ wantedSum b → validateFault b .number ≡ 0
+  pub validate-passes : openFault v b .number ≡ 0 → storedSum b ≡ wantedSum b → validateFault v b .number ≡ 0
   validate-passes z e =
       ap (λ (x : Refusal). x .number) (sym (sum-then z)) ∙ unfold refuseIf in simp (eq-eqb (storedSum b) (wantedSum b) e)
 
@@ -85,6 +86,6 @@ answer-by true d f = refl
 answer-by false d f = refl
 
 -- the number and the values of what is found
-pub answer-is : (b : List ℕ) (t k : ℕ) → ofRevolution (foundRevolution b t k) ≡ revolutionAnswer b t k
+pub answer-is : (v : Edition) (b : List ℕ) (t k : ℕ) → ofRevolution (foundRevolution v b t k) ≡ revolutionAnswer v b t k
 unfolding foundRevolution revolutionAnswer
-answer-is b t k = answer-by (passes (revolutionQuestion b t k)) (dataOf b (trackEntry b t) k) (revolutionQuestion b t k)
+answer-is v b t k = answer-by (passes (revolutionQuestion v b t k)) (dataOf b (trackEntry b t) k) (revolutionQuestion v b t k)

@@ -1,4 +1,4 @@
--- What each call on an image answers: a definition gives the number and the values of each case (A-2).
+-- What each call on an image answers, by the edition that it names: a definition gives the number and the values of each case (A-2).
 use Prim.Native.Nat.{ℕ, _+_, _*_}
 use mathlib.Core.List.{List, [], _∷_}
 use mathlib.Core.Bool.{cond}
@@ -10,6 +10,7 @@ use Rattle.refusals.specs.declared.Refusal.{Refusal}
 use Rattle.flux.specs.Answers.{Filling, refuses, reading}
 use Rattle.octets.specs.Numbers.{byteAt, le64At}
 use Rattle.refusals.specs.Refusals.{passes}
+use Rattle.scp_fields.specs.declared.Edition.{Edition}
 use Rattle.scp_fields.specs.Header.{version, disk, revolutions, startTrack, endTrack, flags, hasFooter, width, heads, storedSum, trackEntry}
 use Rattle.scp_fields.specs.Footer.{footerAt, stringEntry}
 use Rattle.scp_open.specs.declared.Header.{Header}
@@ -63,8 +64,8 @@ ofValidated validated.Valid = numbers []
 ofValidated (validated.Refused r) = refused (r .number) (r .position)
 
 -- R-12, T-14: validating gives no values.
-abbrev pub validateAnswer : List ℕ → Answer
-validateAnswer b = unless (validateFault b) (numbers [])
+abbrev pub validateAnswer : Edition → List ℕ → Answer
+validateAnswer v b = unless (validateFault v b) (numbers [])
 
 -- ---- the header
 
@@ -79,9 +80,9 @@ ofHeader (header-answer.Found h) = numbers (headerNumbers h)
 ofHeader (header-answer.Refused r) = refused (r .number) (r .position)
 
 -- T-3, C-5: version, disk type, revolutions, start, end, flags, width, heads, checksum.
-unfoldable pub headerAnswer : List ℕ → Answer
-headerAnswer b =
-    unless (openFault b)
+unfoldable pub headerAnswer : Edition → List ℕ → Answer
+headerAnswer v b =
+    unless (openFault v b)
     (numbers
     (version b ∷ disk b ∷ revolutions b ∷ startTrack b ∷ endTrack b ∷ flags b ∷ width b ∷ heads b ∷ storedSum b ∷ []))
 
@@ -109,8 +110,8 @@ footerValues b =
     (byteAt b (footerAt b + 0x28) ∷ byteAt b (footerAt b + 0x29) ∷ byteAt b (footerAt b + 0x2A) ∷ byteAt b (footerAt b + 0x2B) ∷ [])
 
 -- T-4, C-6: that, or the plain fact that there is none.
-unfoldable pub footerAnswer : List ℕ → Answer
-footerAnswer b = unless (openFault b) (cond (hasFooter b) (footerValues b) none)
+unfoldable pub footerAnswer : Edition → List ℕ → Answer
+footerAnswer v b = unless (openFault v b) (cond (hasFooter v b) (footerValues b) none)
 
 -- ---- a track
 
@@ -120,8 +121,8 @@ ofTrack (track-answer.Found d) = numbers (d .cylinder ∷ d .head ∷ d .offset 
 ofTrack (track-answer.Refused r) = refused (r .number) (r .position)
 
 -- T-5, C-7: cylinder, head, file offset of its header, revolutions.
-unfoldable pub trackAnswer : List ℕ → ℕ → Answer
-trackAnswer b t = unless (trackQuestion b t) (numbers (cylinderOf t ∷ headOf t ∷ trackEntry b t ∷ revolutions b ∷ []))
+unfoldable pub trackAnswer : Edition → List ℕ → ℕ → Answer
+trackAnswer v b t = unless (trackQuestion v b t) (numbers (cylinderOf t ∷ headOf t ∷ trackEntry b t ∷ revolutions b ∷ []))
 
 -- ---- a revolution
 
@@ -131,9 +132,9 @@ ofRevolution (revolution-answer.Found d) = numbers (d .duration ∷ d .words ∷
 ofRevolution (revolution-answer.Refused r) = refused (r .number) (r .position)
 
 -- T-6, C-8: duration, count of words, file offset of its flux.
-unfoldable pub revolutionAnswer : List ℕ → ℕ → ℕ → Answer
-revolutionAnswer b t k =
-    unless (revolutionQuestion b t k)
+unfoldable pub revolutionAnswer : Edition → List ℕ → ℕ → ℕ → Answer
+revolutionAnswer v b t k =
+    unless (revolutionQuestion v b t k)
     (numbers (durationAt b (trackEntry b t) k ∷ countAt b (trackEntry b t) k ∷ fluxAt b (trackEntry b t) k ∷ []))
 
 -- ---- its flux
@@ -153,16 +154,16 @@ startOf (revolution-answer.Found d) = d .offset .0
 startOf (revolution-answer.Refused r) = 0
 
 -- T-7: the part that is the flux of revolution k of track t.
-abbrev pub fluxPart : List ℕ → ℕ → ℕ → List ℕ
-fluxPart b t k = partOf b (foundRevolution b t k)
+abbrev pub fluxPart : Edition → List ℕ → ℕ → ℕ → List ℕ
+fluxPart v b t k = partOf b (foundRevolution v b t k)
 
 -- T-7: where that part starts.
-abbrev pub fluxStart : List ℕ → ℕ → ℕ → ℕ
-fluxStart b t k = startOf (foundRevolution b t k)
+abbrev pub fluxStart : Edition → List ℕ → ℕ → ℕ → ℕ
+fluxStart v b t k = startOf (foundRevolution v b t k)
 
 -- T-7, S-17: where the flux starts, and its bytes; the number and position where the revolution is refused.
-abbrev pub fluxAnswer : List ℕ → ℕ → ℕ → Answer
-fluxAnswer b t k = unless (revolutionQuestion b t k) (bytes (fluxStart b t k) (fluxPart b t k))
+abbrev pub fluxAnswer : Edition → List ℕ → ℕ → ℕ → Answer
+fluxAnswer v b t k = unless (revolutionQuestion v b t k) (bytes (fluxStart v b t k) (fluxPart v b t k))
 
 -- ---- speeds
 
@@ -177,9 +178,9 @@ ofSpeed (speed-answer.Found s) = ofSpeedOnly s
 ofSpeed (speed-answer.Refused r) = refused (r .number) (r .position)
 
 -- T-10, C-10: a speed in rpm, or the plain fact that there is none, which is so for duration 0.
-unfoldable pub speedAnswer : List ℕ → ℕ → ℕ → Answer
-speedAnswer b t k =
-    unless (revolutionQuestion b t k)
+unfoldable pub speedAnswer : Edition → List ℕ → ℕ → ℕ → Answer
+speedAnswer v b t k =
+    unless (revolutionQuestion v b t k)
     (cond (eqb (durationAt b (trackEntry b t) k) 0) none (speeds (rpmOf (durationAt b (trackEntry b t) k) ∷ [])))
 
 -- A-12: number and values of each case of the speeds of a track.
@@ -194,8 +195,8 @@ ofSpeedRange (range.Speeds s) = speeds (s .slowest ∷ s .fastest ∷ [])
 ofSpeedRange range.None = none
 
 -- T-12, C-10: the slowest and the fastest speed, of the longest and the shortest duration that is not 0, or none if all are 0.
-unfoldable pub trackSpeedAnswer : List ℕ → ℕ → Answer
-trackSpeedAnswer b t = unless (trackQuestion b t) (ofSpeedRange (speedsOf b (trackEntry b t)))
+unfoldable pub trackSpeedAnswer : Edition → List ℕ → ℕ → Answer
+trackSpeedAnswer v b t = unless (trackQuestion v b t) (ofSpeedRange (speedsOf b (trackEntry b t)))
 
 -- ---- its intervals at one go
 
@@ -205,5 +206,5 @@ intervalsOf b places (revolution-answer.Found d) = reading (fluxOf b d) places
 intervalsOf b places (revolution-answer.Refused r) = refuses (r .number) (r .position)
 
 -- T-9: the intervals of revolution k of track t, into so many places.
-abbrev pub revolutionReading : List ℕ → ℕ → ℕ → ℕ → Filling
-revolutionReading b t k places = intervalsOf b places (foundRevolution b t k)
+abbrev pub revolutionReading : Edition → List ℕ → ℕ → ℕ → ℕ → Filling
+revolutionReading v b t k places = intervalsOf b places (foundRevolution v b t k)

@@ -5,6 +5,7 @@ use mathlib.Core.Bool.{Bool, not, cond}
 use lib.Dec.{eqb}
 use Rattle.refusals.specs.declared.Refusal.{Refusal}
 use Rattle.refusals.specs.Refusals.{none, refusal, refuseIf, firstOf}
+use Rattle.scp_fields.specs.declared.Edition.{Edition}
 use Rattle.scp_fields.specs.Header.{readWrite, storedSum, trueSum}
 use Rattle.scp_open.specs.Opening.{openFault}
 
@@ -17,5 +18,5 @@ abbrev pub badSum : List ℕ → Bool
 badSum b = not (eqb (storedSum b) (wantedSum b))
 
 -- RO-5: validating: 1 to 12.
-unfoldable pub validateFault : List ℕ → Refusal
-validateFault b = firstOf (openFault b) (refuseIf (badSum b) (refusal 12 0) none)
+unfoldable pub validateFault : Edition → List ℕ → Refusal
+validateFault v b = firstOf (openFault v b) (refuseIf (badSum b) (refusal 12 0) none)

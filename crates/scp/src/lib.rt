@@ -1,13 +1,16 @@
-// Validating a SuperCard Pro image, and the questions that can be asked of it. Every call opens the image anew and takes nobody's word.
+// Validating a SuperCard Pro image, and the questions that can be asked of it, each by the edition that the call names. Every call opens the
+// image anew and takes nobody's word.
 ghost use mathlib.Core.Path.{_≡_};
 ghost use Prim.Native.Nat.{_+_, _*_, _≤_};
 ghost use lib.ListN.{length};
-ghost use Rattle.scp_fields.specs.Header.{tableEnd};
+ghost use Rattle.scp_fields.specs.Editions.{tableAt};
+ghost use Rattle.scp_fields.specs.Header.{footerSize};
 ghost use Rattle.scp.specs.Validating.{wantedSum};
 ghost use Rattle.flux.specs.Answers.{ofFilled, answerOf, bufferAfter};
 ghost use Rattle.scp.specs.Answers.{ofValidated, validateAnswer, ofHeader, headerAnswer, ofFooterData, footerValues, ofFooter, footerAnswer, ofTrack, trackAnswer, ofRevolution, revolutionAnswer, fluxOf, fluxPart, fluxStart, ofSpeed, speedAnswer, ofTrackSpeed, trackSpeedAnswer, revolutionReading};
 use flux::Filled;
 use refusals::Refusal;
+use scp_fields::Edition;
 use scp_lookup::Entry;
 use scp_lookup::RevolutionAnswer;
 use scp_open::Header;
@@ -79,7 +82,7 @@ pub enum TrackSpeedAnswer {
 
 // The checksum that is to be stored.
 fn wanted_sum(image: &[u8]) -> u32
-    requires { ⌜ tableEnd ≤ length (now image) ⌝ }
+    requires { ⌜ tableAt ≤ length (now image) ⌝ }
     ensures { λ r. ⌜ r ≡ wantedSum (now (image .entry)) ⌝ }
 {
     if scp_fields::is_read_write(image) {
@@ -89,10 +92,10 @@ fn wanted_sum(image: &[u8]) -> u32
 }
 
 // Validates an image: refusals 1 to 12.
-pub fn validate(image: &[u8]) -> Validated
-    ensures { λ r. ⌜ ofValidated r ≡ validateAnswer (now (image .entry)) ⌝ }
+pub fn validate(image: &[u8], edition: Edition) -> Validated
+    ensures { λ r. ⌜ ofValidated r ≡ validateAnswer edition (now (image .entry)) ⌝ }
 {
-    let opened = scp_open::open(image);
+    let opened = scp_open::open(image, edition);
     let refusal = opened.refusal;
     if refusal.number != 0 {
         return Validated::Refused(refusal);
@@ -108,10 +111,10 @@ pub fn validate(image: &[u8]) -> Validated
 // ---- header and footer
 
 // The header's fields.
-pub fn header(image: &[u8]) -> HeaderAnswer
-    ensures { λ r. ⌜ ofHeader r ≡ headerAnswer (now (image .entry)) ⌝ }
+pub fn header(image: &[u8], edition: Edition) -> HeaderAnswer
+    ensures { λ r. ⌜ ofHeader r ≡ headerAnswer edition (now (image .entry)) ⌝ }
 {
-    let opened = scp_open::open(image);
+    let opened = scp_open::open(image, edition);
     let refusal = opened.refusal;
     if refusal.number != 0 {
         return HeaderAnswer::Refused(refusal);
@@ -122,7 +125,7 @@ pub fn header(image: &[u8]) -> HeaderAnswer
 
 // The footer's numbers.
 fn read_footer(image: &[u8]) -> FooterData
-    requires { ⌜ tableEnd ≤ length (now image) ⌝ }
+    requires { ⌜ footerSize ≤ length (now image) ⌝ }
     ensures { λ r. ⌜ ofFooterData r ≡ footerValues (now (image .entry)) ⌝ }
 {
     let f = image.len() - scp_fields::FOOTER_SIZE;
@@ -143,15 +146,15 @@ fn read_footer(image: &[u8]) -> FooterData
 }
 
 // The footer, or the plain fact that there is none.
-pub fn footer(image: &[u8]) -> FooterAnswer
-    ensures { λ r. ⌜ ofFooter r ≡ footerAnswer (now (image .entry)) ⌝ }
+pub fn footer(image: &[u8], edition: Edition) -> FooterAnswer
+    ensures { λ r. ⌜ ofFooter r ≡ footerAnswer edition (now (image .entry)) ⌝ }
 {
-    let opened = scp_open::open(image);
+    let opened = scp_open::open(image, edition);
     let refusal = opened.refusal;
     if refusal.number != 0 {
         return FooterAnswer::Refused(refusal);
     }
-    if scp_fields::has_footer(image) {
+    if scp_fields::has_footer(image, edition) {
         return FooterAnswer::Found(read_footer(image));
     }
     FooterAnswer::None
@@ -160,10 +163,10 @@ pub fn footer(image: &[u8]) -> FooterAnswer
 // ---- tracks and revolutions
 
 // A track: cylinder, head, where its header starts, revolutions.
-pub fn track(image: &[u8], track: u32) -> TrackAnswer
-    ensures { λ r. ⌜ ofTrack r ≡ trackAnswer (now (image .entry)) track ⌝ }
+pub fn track(image: &[u8], edition: Edition, track: u32) -> TrackAnswer
+    ensures { λ r. ⌜ ofTrack r ≡ trackAnswer edition (now (image .entry)) track ⌝ }
 {
-    let found = scp_lookup::find_track(image, track);
+    let found = scp_lookup::find_track(image, edition, track);
     match found {
         Entry::At(entry) => TrackAnswer::Found(TrackData {
             cylinder: scp_tracks::cylinder(track),
@@ -176,10 +179,10 @@ pub fn track(image: &[u8], track: u32) -> TrackAnswer
 }
 
 // A revolution: duration, words, file offset of its flux.
-pub fn revolution(image: &[u8], track: u32, revolution: u32) -> RevolutionAnswer
-    ensures { λ r. ⌜ ofRevolution r ≡ revolutionAnswer (now (image .entry)) track revolution ⌝ }
+pub fn revolution(image: &[u8], edition: Edition, track: u32, revolution: u32) -> RevolutionAnswer
+    ensures { λ r. ⌜ ofRevolution r ≡ revolutionAnswer edition (now (image .entry)) track revolution ⌝ }
 {
-    scp_lookup::find_revolution(image, track, revolution)
+    scp_lookup::find_revolution(image, edition, track, revolution)
 }
 
 // The flux of a revolution that lies in the image.
@@ -195,11 +198,11 @@ fn part_of(image: &[u8], numbers: RevolutionData) -> &[u8]
 }
 
 // The flux of a revolution, as that part of the caller's image; the empty part at offset 0 where the revolution is refused.
-pub fn flux(image: &[u8], track: u32, revolution: u32) -> &[u8]
-    ensures { λ r. ⌜ now r ≡ fluxPart (now (image .entry)) track revolution ⌝ }
-    ensures { λ r. ⌜ r .ptr ≡ (image .entry .ptr .0, fluxStart (now (image .entry)) track revolution + image .entry .ptr .1) ⌝ }
+pub fn flux(image: &[u8], edition: Edition, track: u32, revolution: u32) -> &[u8]
+    ensures { λ r. ⌜ now r ≡ fluxPart edition (now (image .entry)) track revolution ⌝ }
+    ensures { λ r. ⌜ r .ptr ≡ (image .entry .ptr .0, fluxStart edition (now (image .entry)) track revolution + image .entry .ptr .1) ⌝ }
 {
-    let found = scp_lookup::find_revolution(image, track, revolution);
+    let found = scp_lookup::find_revolution(image, edition, track, revolution);
     match found {
         RevolutionAnswer::Found(data) => part_of(image, data),
         RevolutionAnswer::Refused(_) => &image[..0],
@@ -207,11 +210,17 @@ pub fn flux(image: &[u8], track: u32, revolution: u32) -> &[u8]
 }
 
 // All intervals of a revolution at one go, at the start of the times.
-pub fn revolution_intervals(image: &[u8], track: u32, revolution: u32, times: &mut [u64]) -> Filled
-    ensures { λ r. ⌜ ofFilled r ≡ answerOf (revolutionReading (now (image .entry)) track revolution (length (now (times .entry)))) ⌝ }
-    ensures { λ r. ⌜ now (times .exit) ≡ bufferAfter (now (times .entry)) (revolutionReading (now (image .entry)) track revolution (length (now (times .entry)))) ⌝ }
+pub fn revolution_intervals(
+    image: &[u8],
+    edition: Edition,
+    track: u32,
+    revolution: u32,
+    times: &mut [u64],
+) -> Filled
+    ensures { λ r. ⌜ ofFilled r ≡ answerOf (revolutionReading edition (now (image .entry)) track revolution (length (now (times .entry)))) ⌝ }
+    ensures { λ r. ⌜ now (times .exit) ≡ bufferAfter (now (times .entry)) (revolutionReading edition (now (image .entry)) track revolution (length (now (times .entry)))) ⌝ }
 {
-    let found = scp_lookup::find_revolution(image, track, revolution);
+    let found = scp_lookup::find_revolution(image, edition, track, revolution);
     match found {
         RevolutionAnswer::Found(data) => {
             let part = part_of(image, data);
@@ -224,10 +233,10 @@ pub fn revolution_intervals(image: &[u8], track: u32, revolution: u32, times: &m
 // ---- speeds
 
 // The drive speed of a revolution.
-pub fn speed(image: &[u8], track: u32, revolution: u32) -> SpeedAnswer
-    ensures { λ r. ⌜ ofSpeed r ≡ speedAnswer (now (image .entry)) track revolution ⌝ }
+pub fn speed(image: &[u8], edition: Edition, track: u32, revolution: u32) -> SpeedAnswer
+    ensures { λ r. ⌜ ofSpeed r ≡ speedAnswer edition (now (image .entry)) track revolution ⌝ }
 {
-    let found = scp_lookup::find_revolution(image, track, revolution);
+    let found = scp_lookup::find_revolution(image, edition, track, revolution);
     match found {
         RevolutionAnswer::Found(data) => SpeedAnswer::Found(scp_speed::speed_of(data.duration)),
         RevolutionAnswer::Refused(r) => SpeedAnswer::Refused(r),
@@ -235,10 +244,10 @@ pub fn speed(image: &[u8], track: u32, revolution: u32) -> SpeedAnswer
 }
 
 // The slowest and the fastest speed of a track.
-pub fn track_speed(image: &[u8], track: u32) -> TrackSpeedAnswer
-    ensures { λ r. ⌜ ofTrackSpeed r ≡ trackSpeedAnswer (now (image .entry)) track ⌝ }
+pub fn track_speed(image: &[u8], edition: Edition, track: u32) -> TrackSpeedAnswer
+    ensures { λ r. ⌜ ofTrackSpeed r ≡ trackSpeedAnswer edition (now (image .entry)) track ⌝ }
 {
-    let found = scp_lookup::find_track(image, track);
+    let found = scp_lookup::find_track(image, edition, track);
     match found {
         Entry::At(entry) => {
             let speeds = scp_speed::track_speeds(image, entry);

@@ -5,6 +5,7 @@ use mathlib.Core.List.{List, [], _∷_}
 use mathlib.Core.Bool.{_&&_, cond}
 use lib.Dec.{eqb}
 use Rattle.refusals.specs.Refusals.{passes}
+use Rattle.scp_fields.specs.declared.Edition.{Edition}
 use Rattle.scp.specs.Answers.{Answer, validateAnswer, headerAnswer, footerAnswer, trackAnswer, revolutionAnswer, fluxAnswer, speedAnswer, trackSpeedAnswer}
 use Rattle.scp_sharing.specs.RewriteFault.{rewriteFault}
 use Rattle.scp_rewrite.specs.Rewriting.{afterRewrite}
@@ -24,33 +25,33 @@ pub data Question : Type 0 where
   speed : ℕ → ℕ → Question
   trackSpeed : ℕ → Question
 
--- S-1: a call asks a question, or rewrites a revolution of a track with a new duration and new words.
+-- S-1, V-5: a call asks a question, or rewrites a revolution of a track with a new duration and new words; each names the edition it is meant by.
 pub data Call : Type 0 where
-  ask : Question → Call
-  rewrite : ℕ → ℕ → ℕ → List ℕ → Call
+  ask : Edition → Question → Call
+  rewrite : Edition → ℕ → ℕ → ℕ → List ℕ → Call
 
 -- ---- answers and bytes
 
--- S-4: what the rules answer to a question about the bytes b.
-unfoldable pub asked : List ℕ → Question → Answer
-asked b validate = validateAnswer b
-asked b header = headerAnswer b
-asked b footer = footerAnswer b
-asked b (track t) = trackAnswer b t
-asked b (revolution t k) = revolutionAnswer b t k
-asked b (flux t k) = fluxAnswer b t k
-asked b (speed t k) = speedAnswer b t k
-asked b (trackSpeed t) = trackSpeedAnswer b t
+-- S-4: what the rules answer to a question about the bytes b, by the edition v.
+unfoldable pub asked : Edition → List ℕ → Question → Answer
+asked v b validate = validateAnswer v b
+asked v b header = headerAnswer v b
+asked v b footer = footerAnswer v b
+asked v b (track t) = trackAnswer v b t
+asked v b (revolution t k) = revolutionAnswer v b t k
+asked v b (flux t k) = fluxAnswer v b t k
+asked v b (speed t k) = speedAnswer v b t k
+asked v b (trackSpeed t) = trackSpeedAnswer v b t
 
 -- S-4, C-9: what the rules answer to a call on the bytes b.
 unfoldable pub answer : List ℕ → Call → Answer
-answer b (ask q) = asked b q
-answer b (rewrite t k d ws) = rewriteAnswer b t k ws
+answer b (ask v q) = asked v b q
+answer b (rewrite v t k d ws) = rewriteAnswer v b t k ws
 
 -- S-2: the bytes after a call: validations, questions and refused rewrites leave them.
 unfoldable pub after : List ℕ → Call → List ℕ
-after b (ask q) = b
-after b (rewrite t k d ws) = afterRewrite b t k d ws
+after b (ask v q) = b
+after b (rewrite v t k d ws) = afterRewrite v b t k d ws
 
 -- S-2, S-3: the bytes after a list of calls; each call gets the image as the last one left it.
 unfoldable pub finalBytes : List ℕ → List Call → List ℕ
@@ -66,8 +67,8 @@ answers b (c ∷ cs) = answer b c ∷ answers (after b c) cs
 
 -- S-8: r, with what a call on the bytes b puts into revolution k of track t; only an accepted rewrite of that revolution puts anything.
 unfoldable pub noted : List ℕ → Call → ℕ → ℕ → Reading → Reading
-noted b (ask q) t k r = r
-noted b (rewrite u j d ws) t k r = cond (passes (rewriteFault b u j ws) && (eqb u t && eqb j k)) (put r d ws) r
+noted b (ask v q) t k r = r
+noted b (rewrite v u j d ws) t k r = cond (passes (rewriteFault v b u j ws) && (eqb u t && eqb j k)) (put r d ws) r
 
 -- S-8: after the calls: as its last accepted rewrite put it, or as before, r, if it had none.
 unfoldable pub lastPut : List ℕ → List Call → ℕ → ℕ → Reading → Reading

@@ -1,7 +1,8 @@
 // The boundary to C and Rust: each call returns 0, or a refusal's number + 256 x its position, and puts its values to a lent buffer.
-// A slice passes as a pointer and a length (include/scp.h). What a call on flux or a question does stands in `flux_coded` and `scp_coded`.
+// A slice passes as a pointer and a length (include/scp.h), and an edition as a number: 14 is 1.4, any other 1.6. What a call on flux or a question does stands in `flux_coded` and `scp_coded`.
 ghost use mathlib.Core.Path.{_≡_};
 ghost use lib.ListN.{length};
+ghost use Rattle.scp_fields.specs.Editions.{editionOf};
 ghost use Rattle.flux.specs.Answers.{stepAt, reading, writing, bufferAfter};
 ghost use Rattle.scp.specs.Answers.{Answer, validateAnswer, headerAnswer, footerAnswer, trackAnswer, revolutionAnswer, fluxAnswer, speedAnswer, trackSpeedAnswer};
 ghost use Rattle.scp_rewrite.specs.Answering.{rewriteAnswer};
@@ -16,75 +17,111 @@ use sequence::Replayed;
 
 // Validates the image: refusals 1 to 12.
 #[no_mangle]
-pub extern "C" fn scp_validate(image: &[u8]) -> u64
-    ensures { λ r. ⌜ r ≡ codeOf (numbersOf (validateAnswer (now (image .entry)))) ⌝ }
+pub extern "C" fn scp_validate(image: &[u8], edition: u32) -> u64
+    ensures { λ r. ⌜ r ≡ codeOf (numbersOf (validateAnswer (editionOf edition) (now (image .entry)))) ⌝ }
 {
-    scp_coded::validate(image)
+    scp_coded::validate(image, scp_fields::edition_of(edition as u64))
 }
 
 // The header: version, disk type, revolutions, start, end, flags, width, heads, checksum.
 #[no_mangle]
-pub extern "C" fn scp_header(image: &[u8], out: &mut [u64]) -> u64
-    ensures { λ r. ⌜ r ≡ codeOf (within (length (now (out .entry))) (numbersOf (headerAnswer (now (image .entry))))) ⌝ }
-    ensures { λ _. ⌜ now (out .exit) ≡ outAfter (now (out .entry)) (within (length (now (out .entry))) (numbersOf (headerAnswer (now (image .entry))))) ⌝ }
+pub extern "C" fn scp_header(image: &[u8], edition: u32, out: &mut [u64]) -> u64
+    ensures { λ r. ⌜ r ≡ codeOf (within (length (now (out .entry))) (numbersOf (headerAnswer (editionOf edition) (now (image .entry))))) ⌝ }
+    ensures { λ _. ⌜ now (out .exit) ≡ outAfter (now (out .entry)) (within (length (now (out .entry))) (numbersOf (headerAnswer (editionOf edition) (now (image .entry))))) ⌝ }
 {
-    scp_coded::header(image, out)
+    scp_coded::header(image, scp_fields::edition_of(edition as u64), out)
 }
 
 // The footer: 1, six offsets, two times, four version bytes; 13 zeros where there is none.
 #[no_mangle]
-pub extern "C" fn scp_footer(image: &[u8], out: &mut [u64]) -> u64
-    ensures { λ r. ⌜ r ≡ codeOf (within (length (now (out .entry))) (numbersOf (footerAnswer (now (image .entry))))) ⌝ }
-    ensures { λ _. ⌜ now (out .exit) ≡ outAfter (now (out .entry)) (within (length (now (out .entry))) (numbersOf (footerAnswer (now (image .entry))))) ⌝ }
+pub extern "C" fn scp_footer(image: &[u8], edition: u32, out: &mut [u64]) -> u64
+    ensures { λ r. ⌜ r ≡ codeOf (within (length (now (out .entry))) (numbersOf (footerAnswer (editionOf edition) (now (image .entry))))) ⌝ }
+    ensures { λ _. ⌜ now (out .exit) ≡ outAfter (now (out .entry)) (within (length (now (out .entry))) (numbersOf (footerAnswer (editionOf edition) (now (image .entry))))) ⌝ }
 {
-    scp_coded::footer(image, out)
+    scp_coded::footer(image, scp_fields::edition_of(edition as u64), out)
 }
 
 // A track: cylinder, head, file offset of its header, revolutions.
 #[no_mangle]
-pub extern "C" fn scp_track(image: &[u8], track: u32, out: &mut [u64]) -> u64
-    ensures { λ r. ⌜ r ≡ codeOf (within (length (now (out .entry))) (numbersOf (trackAnswer (now (image .entry)) track))) ⌝ }
-    ensures { λ _. ⌜ now (out .exit) ≡ outAfter (now (out .entry)) (within (length (now (out .entry))) (numbersOf (trackAnswer (now (image .entry)) track))) ⌝ }
+pub extern "C" fn scp_track(image: &[u8], edition: u32, track: u32, out: &mut [u64]) -> u64
+    ensures { λ r. ⌜ r ≡ codeOf (within (length (now (out .entry))) (numbersOf (trackAnswer (editionOf edition) (now (image .entry)) track))) ⌝ }
+    ensures { λ _. ⌜ now (out .exit) ≡ outAfter (now (out .entry)) (within (length (now (out .entry))) (numbersOf (trackAnswer (editionOf edition) (now (image .entry)) track))) ⌝ }
 {
-    scp_coded::track(image, track, out)
+    scp_coded::track(image, scp_fields::edition_of(edition as u64), track, out)
 }
 
 // A revolution: duration, words, file offset of its flux.
 #[no_mangle]
-pub extern "C" fn scp_revolution(image: &[u8], track: u32, revolution: u32, out: &mut [u64]) -> u64
-    ensures { λ r. ⌜ r ≡ codeOf (within (length (now (out .entry))) (numbersOf (revolutionAnswer (now (image .entry)) track revolution))) ⌝ }
-    ensures { λ _. ⌜ now (out .exit) ≡ outAfter (now (out .entry)) (within (length (now (out .entry))) (numbersOf (revolutionAnswer (now (image .entry)) track revolution))) ⌝ }
+pub extern "C" fn scp_revolution(
+    image: &[u8],
+    edition: u32,
+    track: u32,
+    revolution: u32,
+    out: &mut [u64],
+) -> u64
+    ensures { λ r. ⌜ r ≡ codeOf (within (length (now (out .entry))) (numbersOf (revolutionAnswer (editionOf edition) (now (image .entry)) track revolution))) ⌝ }
+    ensures { λ _. ⌜ now (out .exit) ≡ outAfter (now (out .entry)) (within (length (now (out .entry))) (numbersOf (revolutionAnswer (editionOf edition) (now (image .entry)) track revolution))) ⌝ }
 {
-    scp_coded::revolution(image, track, revolution, out)
+    scp_coded::revolution(
+        image,
+        scp_fields::edition_of(edition as u64),
+        track,
+        revolution,
+        out,
+    )
 }
 
 // The flux of a revolution.
 #[no_mangle]
-pub extern "C" fn scp_flux(image: &[u8], track: u32, revolution: u32, out: &mut [u8]) -> u64
-    ensures { λ r. ⌜ r ≡ codeOf (within (length (now (out .entry))) (numbersOf (fluxAnswer (now (image .entry)) track revolution))) ⌝ }
-    ensures { λ _. ⌜ now (out .exit) ≡ outAfter (now (out .entry)) (within (length (now (out .entry))) (numbersOf (fluxAnswer (now (image .entry)) track revolution))) ⌝ }
+pub extern "C" fn scp_flux(
+    image: &[u8],
+    edition: u32,
+    track: u32,
+    revolution: u32,
+    out: &mut [u8],
+) -> u64
+    ensures { λ r. ⌜ r ≡ codeOf (within (length (now (out .entry))) (numbersOf (fluxAnswer (editionOf edition) (now (image .entry)) track revolution))) ⌝ }
+    ensures { λ _. ⌜ now (out .exit) ≡ outAfter (now (out .entry)) (within (length (now (out .entry))) (numbersOf (fluxAnswer (editionOf edition) (now (image .entry)) track revolution))) ⌝ }
 {
-    scp_coded::flux(image, track, revolution, out)
+    scp_coded::flux(
+        image,
+        scp_fields::edition_of(edition as u64),
+        track,
+        revolution,
+        out,
+    )
 }
 
 // ---- speeds
 
 // The speed of a revolution: 1.0 and the speed, or two zeros.
 #[no_mangle]
-pub extern "C" fn scp_speed(image: &[u8], track: u32, revolution: u32, out: &mut [f64]) -> u64
-    ensures { λ r. ⌜ r ≡ codeOf (within (length (now (out .entry))) (floatsOf 2 (speedAnswer (now (image .entry)) track revolution))) ⌝ }
-    ensures { λ _. ⌜ now (out .exit) ≡ outAfter (now (out .entry)) (within (length (now (out .entry))) (floatsOf 2 (speedAnswer (now (image .entry)) track revolution))) ⌝ }
+pub extern "C" fn scp_speed(
+    image: &[u8],
+    edition: u32,
+    track: u32,
+    revolution: u32,
+    out: &mut [f64],
+) -> u64
+    ensures { λ r. ⌜ r ≡ codeOf (within (length (now (out .entry))) (floatsOf 2 (speedAnswer (editionOf edition) (now (image .entry)) track revolution))) ⌝ }
+    ensures { λ _. ⌜ now (out .exit) ≡ outAfter (now (out .entry)) (within (length (now (out .entry))) (floatsOf 2 (speedAnswer (editionOf edition) (now (image .entry)) track revolution))) ⌝ }
 {
-    scp_coded::speed(image, track, revolution, out)
+    scp_coded::speed(
+        image,
+        scp_fields::edition_of(edition as u64),
+        track,
+        revolution,
+        out,
+    )
 }
 
 // The speeds of a track: 1.0, slowest, fastest, or three zeros.
 #[no_mangle]
-pub extern "C" fn scp_track_speed(image: &[u8], track: u32, out: &mut [f64]) -> u64
-    ensures { λ r. ⌜ r ≡ codeOf (within (length (now (out .entry))) (floatsOf 3 (trackSpeedAnswer (now (image .entry)) track))) ⌝ }
-    ensures { λ _. ⌜ now (out .exit) ≡ outAfter (now (out .entry)) (within (length (now (out .entry))) (floatsOf 3 (trackSpeedAnswer (now (image .entry)) track))) ⌝ }
+pub extern "C" fn scp_track_speed(image: &[u8], edition: u32, track: u32, out: &mut [f64]) -> u64
+    ensures { λ r. ⌜ r ≡ codeOf (within (length (now (out .entry))) (floatsOf 3 (trackSpeedAnswer (editionOf edition) (now (image .entry)) track))) ⌝ }
+    ensures { λ _. ⌜ now (out .exit) ≡ outAfter (now (out .entry)) (within (length (now (out .entry))) (floatsOf 3 (trackSpeedAnswer (editionOf edition) (now (image .entry)) track))) ⌝ }
 {
-    scp_coded::track_speed(image, track, out)
+    scp_coded::track_speed(image, scp_fields::edition_of(edition as u64), track, out)
 }
 
 // ---- flux
@@ -124,22 +161,24 @@ pub extern "C" fn scp_words(times: &[u64], words: &mut [u8], out: &mut [u64]) ->
 #[no_mangle]
 pub extern "C" fn scp_rewrite(
     image: &mut [u8],
+    edition: u32,
     track: u32,
     revolution: u32,
     duration: u32,
     words: &[u8],
 ) -> u64
-    ensures { λ r. ⌜ r ≡ codeOf (numbersOf (rewriteAnswer (now (image .entry)) track revolution (now (words .entry)))) ⌝ }
-    ensures { λ _. ⌜ now (image .exit) ≡ afterRewrite (now (image .entry)) track revolution duration (now (words .entry)) ⌝ }
+    ensures { λ r. ⌜ r ≡ codeOf (numbersOf (rewriteAnswer (editionOf edition) (now (image .entry)) track revolution (now (words .entry)))) ⌝ }
+    ensures { λ _. ⌜ now (image .exit) ≡ afterRewrite (editionOf edition) (now (image .entry)) track revolution duration (now (words .entry)) ⌝ }
 {
-    let found = scp_rewrite::rewrite(image, track, revolution, duration, words);
+    let named = scp_fields::edition_of(edition as u64);
+    let found = scp_rewrite::rewrite(image, named, track, revolution, duration, words);
     match found {
         Rewritten::Done => 0,
         Rewritten::Refused(r) => boundary::code(r),
     }
 }
 
-// Runs a list of calls on the image, 6 numbers each; 16 numbers a call to `answers`. The claim S holds of the whole sequence.
+// Runs a list of calls on the image, 7 numbers each; 16 numbers a call to `answers`. The claim S holds of the whole sequence.
 #[no_mangle]
 pub extern "C" fn scp_replay(
     image: &mut [u8],

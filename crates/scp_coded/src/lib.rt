@@ -10,13 +10,14 @@ use scp::SpeedAnswer;
 use scp::TrackAnswer;
 use scp::TrackSpeedAnswer;
 use scp::Validated;
+use scp_fields::Edition;
 use scp_lookup::RevolutionAnswer;
 
 // Validates the image: refusals 1 to 12.
-pub fn validate(image: &[u8]) -> u64
-    ensures { λ r. ⌜ r ≡ codeOf (numbersOf (validateAnswer (now (image .entry)))) ⌝ }
+pub fn validate(image: &[u8], edition: Edition) -> u64
+    ensures { λ r. ⌜ r ≡ codeOf (numbersOf (validateAnswer edition (now (image .entry)))) ⌝ }
 {
-    let found = scp::validate(image);
+    let found = scp::validate(image, edition);
     match found {
         Validated::Valid => 0,
         Validated::Refused(r) => boundary::code(r),
@@ -24,11 +25,11 @@ pub fn validate(image: &[u8]) -> u64
 }
 
 // The header: version, disk type, revolutions, start, end, flags, width, heads, checksum.
-pub fn header(image: &[u8], out: &mut [u64]) -> u64
-    ensures { λ r. ⌜ r ≡ codeOf (within (length (now (out .entry))) (numbersOf (headerAnswer (now (image .entry))))) ⌝ }
-    ensures { λ _. ⌜ now (out .exit) ≡ outAfter (now (out .entry)) (within (length (now (out .entry))) (numbersOf (headerAnswer (now (image .entry))))) ⌝ }
+pub fn header(image: &[u8], edition: Edition, out: &mut [u64]) -> u64
+    ensures { λ r. ⌜ r ≡ codeOf (within (length (now (out .entry))) (numbersOf (headerAnswer edition (now (image .entry))))) ⌝ }
+    ensures { λ _. ⌜ now (out .exit) ≡ outAfter (now (out .entry)) (within (length (now (out .entry))) (numbersOf (headerAnswer edition (now (image .entry))))) ⌝ }
 {
-    let found = scp::header(image);
+    let found = scp::header(image, edition);
     match found {
         HeaderAnswer::Found(h) => {
             let row = scp_values::header_numbers(h);
@@ -39,11 +40,11 @@ pub fn header(image: &[u8], out: &mut [u64]) -> u64
 }
 
 // The footer: 1, six offsets, two times, four version bytes; 13 zeros where there is none.
-pub fn footer(image: &[u8], out: &mut [u64]) -> u64
-    ensures { λ r. ⌜ r ≡ codeOf (within (length (now (out .entry))) (numbersOf (footerAnswer (now (image .entry))))) ⌝ }
-    ensures { λ _. ⌜ now (out .exit) ≡ outAfter (now (out .entry)) (within (length (now (out .entry))) (numbersOf (footerAnswer (now (image .entry))))) ⌝ }
+pub fn footer(image: &[u8], edition: Edition, out: &mut [u64]) -> u64
+    ensures { λ r. ⌜ r ≡ codeOf (within (length (now (out .entry))) (numbersOf (footerAnswer edition (now (image .entry))))) ⌝ }
+    ensures { λ _. ⌜ now (out .exit) ≡ outAfter (now (out .entry)) (within (length (now (out .entry))) (numbersOf (footerAnswer edition (now (image .entry))))) ⌝ }
 {
-    let found = scp::footer(image);
+    let found = scp::footer(image, edition);
     match found {
         FooterAnswer::Found(f) => {
             let row = scp_values::footer_numbers(f);
@@ -58,11 +59,11 @@ pub fn footer(image: &[u8], out: &mut [u64]) -> u64
 }
 
 // A track: cylinder, head, file offset of its header, revolutions.
-pub fn track(image: &[u8], track: u32, out: &mut [u64]) -> u64
-    ensures { λ r. ⌜ r ≡ codeOf (within (length (now (out .entry))) (numbersOf (trackAnswer (now (image .entry)) track))) ⌝ }
-    ensures { λ _. ⌜ now (out .exit) ≡ outAfter (now (out .entry)) (within (length (now (out .entry))) (numbersOf (trackAnswer (now (image .entry)) track))) ⌝ }
+pub fn track(image: &[u8], edition: Edition, track: u32, out: &mut [u64]) -> u64
+    ensures { λ r. ⌜ r ≡ codeOf (within (length (now (out .entry))) (numbersOf (trackAnswer edition (now (image .entry)) track))) ⌝ }
+    ensures { λ _. ⌜ now (out .exit) ≡ outAfter (now (out .entry)) (within (length (now (out .entry))) (numbersOf (trackAnswer edition (now (image .entry)) track))) ⌝ }
 {
-    let found = scp::track(image, track);
+    let found = scp::track(image, edition, track);
     match found {
         TrackAnswer::Found(d) => {
             let row = scp_values::track_numbers(d);
@@ -73,11 +74,17 @@ pub fn track(image: &[u8], track: u32, out: &mut [u64]) -> u64
 }
 
 // A revolution: duration, words, file offset of its flux.
-pub fn revolution(image: &[u8], track: u32, revolution: u32, out: &mut [u64]) -> u64
-    ensures { λ r. ⌜ r ≡ codeOf (within (length (now (out .entry))) (numbersOf (revolutionAnswer (now (image .entry)) track revolution))) ⌝ }
-    ensures { λ _. ⌜ now (out .exit) ≡ outAfter (now (out .entry)) (within (length (now (out .entry))) (numbersOf (revolutionAnswer (now (image .entry)) track revolution))) ⌝ }
+pub fn revolution(
+    image: &[u8],
+    edition: Edition,
+    track: u32,
+    revolution: u32,
+    out: &mut [u64],
+) -> u64
+    ensures { λ r. ⌜ r ≡ codeOf (within (length (now (out .entry))) (numbersOf (revolutionAnswer edition (now (image .entry)) track revolution))) ⌝ }
+    ensures { λ _. ⌜ now (out .exit) ≡ outAfter (now (out .entry)) (within (length (now (out .entry))) (numbersOf (revolutionAnswer edition (now (image .entry)) track revolution))) ⌝ }
 {
-    let found = scp::revolution(image, track, revolution);
+    let found = scp::revolution(image, edition, track, revolution);
     match found {
         RevolutionAnswer::Found(d) => {
             let row = scp_values::revolution_numbers(d);
@@ -88,11 +95,11 @@ pub fn revolution(image: &[u8], track: u32, revolution: u32, out: &mut [u64]) ->
 }
 
 // The flux of a revolution.
-pub fn flux(image: &[u8], track: u32, revolution: u32, out: &mut [u8]) -> u64
-    ensures { λ r. ⌜ r ≡ codeOf (within (length (now (out .entry))) (numbersOf (fluxAnswer (now (image .entry)) track revolution))) ⌝ }
-    ensures { λ _. ⌜ now (out .exit) ≡ outAfter (now (out .entry)) (within (length (now (out .entry))) (numbersOf (fluxAnswer (now (image .entry)) track revolution))) ⌝ }
+pub fn flux(image: &[u8], edition: Edition, track: u32, revolution: u32, out: &mut [u8]) -> u64
+    ensures { λ r. ⌜ r ≡ codeOf (within (length (now (out .entry))) (numbersOf (fluxAnswer edition (now (image .entry)) track revolution))) ⌝ }
+    ensures { λ _. ⌜ now (out .exit) ≡ outAfter (now (out .entry)) (within (length (now (out .entry))) (numbersOf (fluxAnswer edition (now (image .entry)) track revolution))) ⌝ }
 {
-    let answer = scp::revolution(image, track, revolution);
+    let answer = scp::revolution(image, edition, track, revolution);
     match answer {
         RevolutionAnswer::Found(d) => boundary::give_bytes(out, scp_values::flux_of(image, d)),
         RevolutionAnswer::Refused(r) => boundary::code(r),
@@ -102,11 +109,11 @@ pub fn flux(image: &[u8], track: u32, revolution: u32, out: &mut [u8]) -> u64
 // ---- speeds
 
 // The speed of a revolution: 1.0 and the speed, or two zeros.
-pub fn speed(image: &[u8], track: u32, revolution: u32, out: &mut [f64]) -> u64
-    ensures { λ r. ⌜ r ≡ codeOf (within (length (now (out .entry))) (floatsOf 2 (speedAnswer (now (image .entry)) track revolution))) ⌝ }
-    ensures { λ _. ⌜ now (out .exit) ≡ outAfter (now (out .entry)) (within (length (now (out .entry))) (floatsOf 2 (speedAnswer (now (image .entry)) track revolution))) ⌝ }
+pub fn speed(image: &[u8], edition: Edition, track: u32, revolution: u32, out: &mut [f64]) -> u64
+    ensures { λ r. ⌜ r ≡ codeOf (within (length (now (out .entry))) (floatsOf 2 (speedAnswer edition (now (image .entry)) track revolution))) ⌝ }
+    ensures { λ _. ⌜ now (out .exit) ≡ outAfter (now (out .entry)) (within (length (now (out .entry))) (floatsOf 2 (speedAnswer edition (now (image .entry)) track revolution))) ⌝ }
 {
-    let found = scp::speed(image, track, revolution);
+    let found = scp::speed(image, edition, track, revolution);
     match found {
         SpeedAnswer::Found(s) => scp_boundary::give_speed(out, s),
         SpeedAnswer::Refused(r) => boundary::code(r),
@@ -114,11 +121,11 @@ pub fn speed(image: &[u8], track: u32, revolution: u32, out: &mut [f64]) -> u64
 }
 
 // The speeds of a track: 1.0, slowest, fastest, or three zeros.
-pub fn track_speed(image: &[u8], track: u32, out: &mut [f64]) -> u64
-    ensures { λ r. ⌜ r ≡ codeOf (within (length (now (out .entry))) (floatsOf 3 (trackSpeedAnswer (now (image .entry)) track))) ⌝ }
-    ensures { λ _. ⌜ now (out .exit) ≡ outAfter (now (out .entry)) (within (length (now (out .entry))) (floatsOf 3 (trackSpeedAnswer (now (image .entry)) track))) ⌝ }
+pub fn track_speed(image: &[u8], edition: Edition, track: u32, out: &mut [f64]) -> u64
+    ensures { λ r. ⌜ r ≡ codeOf (within (length (now (out .entry))) (floatsOf 3 (trackSpeedAnswer edition (now (image .entry)) track))) ⌝ }
+    ensures { λ _. ⌜ now (out .exit) ≡ outAfter (now (out .entry)) (within (length (now (out .entry))) (floatsOf 3 (trackSpeedAnswer edition (now (image .entry)) track))) ⌝ }
 {
-    let found = scp::track_speed(image, track);
+    let found = scp::track_speed(image, edition, track);
     match found {
         TrackSpeedAnswer::Found(s) => {
             let row = [scp_boundary::whole(1), s.slowest, s.fastest];

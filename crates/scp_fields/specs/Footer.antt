@@ -3,7 +3,9 @@ use Prim.Native.Nat.{ℕ, _+_, _-_, _*_}
 use mathlib.Core.List.{List}
 use lib.ListN.{length}
 use Rattle.octets.specs.Numbers.{le32At}
-use Rattle.scp_fields.specs.Header.{tableEnd, footerSize}
+use Rattle.scp_fields.specs.Editions.{tableEnd}
+use Rattle.scp_fields.specs.Header.{footerSize}
+use Rattle.scp_fields.specs.declared.Edition.{Edition}
 
 -- L-21: where the footer starts: it is the last 48 bytes.
 abbrev pub footerAt : List ℕ → ℕ
@@ -17,6 +19,6 @@ stringSlots = 6
 abbrev pub stringEntry : List ℕ → ℕ → ℕ
 stringEntry b j = le32At b (footerAt b + 4 * j)
 
--- L-21: the least length of an image that has a footer: 736.
-abbrev pub footerLeast : ℕ
-footerLeast = tableEnd + footerSize
+-- L-21: the least length of an image that has a footer: the table and the footer, so 736 by the one edition that has footers.
+abbrev pub footerLeast : Edition → ℕ
+footerLeast v = tableEnd v + footerSize

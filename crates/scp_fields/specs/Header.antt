@@ -1,12 +1,14 @@
 -- The header and the table (L-2 to L-12, L-17).
 use Prim.Native.Nat.{ℕ, _+_, _-_, _*_, _/_, _%_}
 use mathlib.Core.List.{List}
-use mathlib.Core.Bool.{Bool}
+use mathlib.Core.Bool.{Bool, cond}
 use lib.ListN.{length, drop}
-use lib.Dec.{eqb}
+use lib.Dec.{eqb, ltb}
 use Rattle.octets.specs.Numbers.{byteAt, le32At}
 use Rattle.octets.specs.Sums.{byteSum}
 use Rattle.refusals.specs.Search.{listFrom}
+use Rattle.scp_fields.specs.Editions.{tableAt, slots, footers}
+use Rattle.scp_fields.specs.declared.Edition.{Edition}
 
 -- ---- numbers that a later ruling could move
 
@@ -18,21 +20,9 @@ sizeLimit = 268_435_456
 abbrev pub checksumAt : ℕ
 checksumAt = 0x0C
 
--- L-11: where the table of tracks starts.
-abbrev pub tableAt : ℕ
-tableAt = 0x10
-
--- L-11, L-12: how many entries the table has: tracks number 0 to 167.
+-- A-15: how many entries the table of an opened image has: those of the larger edition.
 abbrev pub trackSlots : ℕ
 trackSlots = 168
-
--- L-12: the highest track number.
-abbrev pub lastTrack : ℕ
-lastTrack = trackSlots - 1
-
--- L-11, L-18: where the table ends, and the least offset of tracks, flux and strings: 688.
-abbrev pub tableEnd : ℕ
-tableEnd = tableAt + 4 * trackSlots
 
 -- L-17, L-21: the bytes of the footer.
 abbrev pub footerSize : ℕ
@@ -68,13 +58,13 @@ flags b = byteAt b 0x08
 abbrev pub readWrite : List ℕ → Bool
 readWrite b = eqb (flags b / 16 % 2) 1
 
--- L-17: FLAGS bit 5, as a number.
-abbrev pub footerBit : List ℕ → ℕ
-footerBit b = flags b / 32 % 2
+-- V-3, L-17: FLAGS bit 5, as a number; 0 by an edition to which it means nothing.
+unfoldable pub footerBit : Edition → List ℕ → ℕ
+footerBit v b = cond (footers v) (flags b / 32 % 2) 0
 
--- L-21: the image has a footer: FLAGS bit 5 is set.
-abbrev pub hasFooter : List ℕ → Bool
-hasFooter b = eqb (footerBit b) 1
+-- L-21: the image has a footer: FLAGS bit 5 is set, and means one.
+abbrev pub hasFooter : Edition → List ℕ → Bool
+hasFooter v b = eqb (footerBit v b) 1
 
 -- L-7: 0x09, the word width.
 abbrev pub width : List ℕ → ℕ
@@ -96,10 +86,14 @@ trueSum b = byteSum (drop 0x10 b)
 abbrev pub trackEntry : List ℕ → ℕ → ℕ
 trackEntry b t = le32At b (tableAt + 4 * t)
 
--- L-11, A-15: the 168 entries together.
-abbrev pub entries : List ℕ → List ℕ
-entries b = listFrom (trackEntry b) 0 trackSlots
+-- V-2, A-15: the entry of track t as an opened image holds it: 0 behind the last of the edition.
+unfoldable pub heldEntry : Edition → List ℕ → ℕ → ℕ
+heldEntry v b t = cond (ltb t (slots v)) (trackEntry b t) 0
 
--- L-17: E, where tracks, flux and strings must end: the length of the image, less 48 if FLAGS bit 5 is set.
-abbrev pub dataEnd : List ℕ → ℕ
-dataEnd b = length b - footerSize * footerBit b
+-- L-11, A-15: the 168 entries that an opened image holds together.
+abbrev pub entries : Edition → List ℕ → List ℕ
+entries v b = listFrom (heldEntry v b) 0 trackSlots
+
+-- L-17: E, where tracks, flux and strings must end: the length of the image, less 48 if it has a footer.
+abbrev pub dataEnd : Edition → List ℕ → ℕ
+dataEnd v b = length b - footerSize * footerBit v b

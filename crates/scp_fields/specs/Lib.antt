@@ -1,2 +1,3 @@
+pub mod Editions
 pub mod Header
 pub mod Footer

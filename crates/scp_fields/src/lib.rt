@@ -1,7 +1,8 @@
-// The fields of a SuperCard Pro image's header, table and footer, each with its place and its one reading. Each function is total: past the
-// end a byte reads 0.
+// The editions of the format, and the fields of a SuperCard Pro image's header, table and footer, each with its place and its one reading.
+// Each function is total: past the end a byte reads 0.
 ghost use mathlib.Core.Path.{_≡_};
-ghost use Prim.Native.Nat.{_<_};
+ghost use Prim.Native.Nat.{_<_, _≤_};
+ghost use Rattle.scp_fields.specs.Editions.{editionOf, slots, lastTrack, tableEnd};
 ghost use Rattle.scp_fields.specs.Header.{
   revolutions,
   startTrack,
@@ -16,7 +17,54 @@ ghost use Rattle.scp_fields.specs.Header.{
   trackEntry,
   dataEnd,
 };
-ghost use Rattle.scp_fields.specs.Footer.{footerAt, stringEntry};
+ghost use Rattle.scp_fields.specs.Footer.{footerAt, stringEntry, footerLeast};
+
+// ---- editions
+
+// The edition by which an image is read: revision 1.4 or 1.6 of the format (V-1).
+pub enum Edition {
+    V1_4,
+    V1_6,
+}
+
+// The number that names revision 1.4; any other names 1.6.
+const NUMBER_OF_1_4: u64 = 14;
+
+// The edition that a number names.
+pub fn edition_of(number: u64) -> Edition
+    ensures { λ r. ⌜ r ≡ editionOf number ⌝ }
+{
+    if number == NUMBER_OF_1_4 {
+        return Edition::V1_4;
+    }
+    Edition::V1_6
+}
+
+// How many entries the table of an edition has.
+pub fn slots(edition: Edition) -> usize
+    ensures { λ r. ⌜ (r ≡ slots edition) × (166 ≤ r) × (r ≤ 168) ⌝ }
+{
+    match edition {
+        Edition::V1_4 => 166,
+        Edition::V1_6 => TRACK_SLOTS,
+    }
+}
+
+// The highest track number of an edition.
+pub fn last_track(edition: Edition) -> usize
+    ensures { λ r. ⌜ r ≡ lastTrack edition ⌝ }
+{
+    slots(edition) - 1
+}
+
+// Where the table of an edition ends: the least offset of tracks, flux and strings.
+pub fn table_end(edition: Edition) -> usize
+    ensures { λ r. ⌜ (r ≡ tableEnd edition) × (680 ≤ r) × (r ≤ 688) ⌝ }
+{
+    TABLE_AT + 4 * slots(edition)
+}
+
+// ---- places
 
 // Where the fields of the header stand (L-2 to L-10).
 pub const VERSION_AT: usize = 3;
@@ -37,23 +85,16 @@ pub const HEADS_AT: usize = 10;
 
 pub const CHECKSUM_AT: usize = 12;
 
-// Where the table starts, how many entries it has, the highest track number, and where the table ends: the least offset of tracks, flux and
-// strings, and where the byte sum starts is where the table does.
+// Where the table starts, and the byte sum with it, and the most entries that a table has: those of an opened image's.
 pub const TABLE_AT: usize = 16;
 
 pub const TRACK_SLOTS: usize = 168;
 
-pub const LAST_TRACK: usize = TRACK_SLOTS - 1;
-
-pub const TABLE_END: usize = TABLE_AT + 4 * TRACK_SLOTS;
-
 // The most bytes of an image (R-1).
 pub const SIZE_LIMIT: usize = 268_435_456;
 
-// The bytes of the footer, the least length of an image that has one, and its strings (L-21, L-22).
+// The bytes of the footer, and its strings (L-21, L-22).
 pub const FOOTER_SIZE: usize = 48;
-
-pub const FOOTER_LEAST: usize = TABLE_END + FOOTER_SIZE;
 
 pub const STRING_SLOTS: u32 = 6;
 
@@ -115,18 +156,21 @@ pub fn is_read_write(image: &[u8]) -> bool
     flags(image) / 16 % 2 == 1
 }
 
-// FLAGS bit 5.
-fn footer_bit(image: &[u8]) -> usize
-    ensures { λ r. ⌜ (r ≡ footerBit (now (image .entry))) × (r < 2) ⌝ }
+// FLAGS bit 5, or 0 by an edition to which it means nothing.
+fn footer_bit(image: &[u8], edition: Edition) -> usize
+    ensures { λ r. ⌜ (r ≡ footerBit edition (now (image .entry))) × (r < 2) ⌝ }
 {
-    wide(flags(image) / 32 % 2)
+    match edition {
+        Edition::V1_4 => 0,
+        Edition::V1_6 => wide(flags(image) / 32 % 2),
+    }
 }
 
-// Whether the image has a footer (FLAGS bit 5).
-pub fn has_footer(image: &[u8]) -> bool
-    ensures { λ r. ⌜ r ≡ hasFooter (now (image .entry)) ⌝ }
+// Whether the image has a footer.
+pub fn has_footer(image: &[u8], edition: Edition) -> bool
+    ensures { λ r. ⌜ r ≡ hasFooter edition (now (image .entry)) ⌝ }
 {
-    footer_bit(image) == 1
+    footer_bit(image, edition) == 1
 }
 
 // The width of a flux word.
@@ -158,11 +202,11 @@ pub fn track_entry(image: &[u8], track: u32) -> u32
 }
 
 // Where tracks, flux and strings end (E), or 0 where the image is too short to have the footer that it flags.
-pub fn data_end(image: &[u8]) -> usize
-    ensures { λ r. ⌜ r ≡ dataEnd (now (image .entry)) ⌝ }
+pub fn data_end(image: &[u8], edition: Edition) -> usize
+    ensures { λ r. ⌜ r ≡ dataEnd edition (now (image .entry)) ⌝ }
 {
     let n = image.len();
-    let footer = FOOTER_SIZE * footer_bit(image);
+    let footer = FOOTER_SIZE * footer_bit(image, edition);
     if n < footer {
         return 0;
     }
@@ -170,6 +214,13 @@ pub fn data_end(image: &[u8]) -> usize
 }
 
 // ---- the footer
+
+// The least length of an image that has a footer.
+pub fn footer_least(edition: Edition) -> usize
+    ensures { λ r. ⌜ r ≡ footerLeast edition ⌝ }
+{
+    table_end(edition) + FOOTER_SIZE
+}
 
 // Where the footer stands, or 0 where the image is too short to have one.
 pub fn footer_at(image: &[u8]) -> usize

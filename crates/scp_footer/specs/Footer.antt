@@ -8,13 +8,15 @@ use Rattle.refusals.specs.declared.Refusal.{Refusal}
 use Rattle.octets.specs.Numbers.{byteAt, le16At, le32At}
 use Rattle.refusals.specs.Refusals.{none, refusal, refuseIf}
 use Rattle.refusals.specs.Search.{anyFrom, firstFrom}
-use Rattle.scp_fields.specs.Header.{tableEnd, hasFooter, dataEnd}
+use Rattle.scp_fields.specs.declared.Edition.{Edition}
+use Rattle.scp_fields.specs.Editions.{tableEnd}
+use Rattle.scp_fields.specs.Header.{hasFooter, dataEnd}
 use Rattle.scp_fields.specs.Footer.{footerAt, stringSlots, stringEntry, footerLeast}
 
--- R-7: FLAGS bit 5 is set, and the length is below 736, the last four bytes are not "FPCS", or byte 0x2B of the footer is below 0x16.
-abbrev pub badFooter : List ℕ → Bool
-badFooter b =
-    hasFooter b && (ltb (length b) footerLeast
+-- R-7: the image has a footer, and the length is below 736, the last four bytes are not "FPCS", or byte 0x2B of the footer is below 0x16.
+abbrev pub badFooter : Edition → List ℕ → Bool
+badFooter v b =
+    hasFooter v b && (ltb (length b) (footerLeast v)
     || (not (eqb (byteAt b (footerAt b + 0x2C)) 0x46 && (eqb (byteAt b (footerAt b + 0x2D)) 0x50
     && (eqb (byteAt b (footerAt b + 0x2E)) 0x43 && eqb (byteAt b (footerAt b + 0x2F)) 0x53)))
     || ltb (byteAt b (footerAt b + 0x2B)) 0x16))
@@ -29,28 +31,28 @@ zeroAt b i = eqb (byteAt b i) 0
 abbrev pub zeroWithin : List ℕ → ℕ → ℕ → Bool
 zeroWithin b i n = anyFrom (zeroAt b) i n
 
--- L-18, L-23, L-24: a string at offset o of n bytes is misplaced or malformed: it starts below 688 or ends above E, one of its bytes is
--- zero, or no zero byte follows them.
-unfoldable pub badStringOf : List ℕ → ℕ → ℕ → Bool
-badStringOf b o n =
-    ltb o tableEnd || (ltb (dataEnd b) (o + 3 + n) || (zeroWithin b (o + 2) n || not (eqb (byteAt b (o + 2 + n)) 0)))
+-- L-18, L-23, L-24: a string at offset o of n bytes is misplaced or malformed: it starts below the table's end or ends above E, one of its
+-- bytes is zero, or no zero byte follows them.
+unfoldable pub badStringOf : Edition → List ℕ → ℕ → ℕ → Bool
+badStringOf v b o n =
+    ltb o (tableEnd v) || (ltb (dataEnd v b) (o + 3 + n) || (zeroWithin b (o + 2) n || not (eqb (byteAt b (o + 2 + n)) 0)))
 
 -- R-8, L-23: the string at offset o, of the 16-bit length that stands there, is misplaced or malformed.
-abbrev pub badString : List ℕ → ℕ → Bool
-badString b o = badStringOf b o (le16At b o)
+abbrev pub badString : Edition → List ℕ → ℕ → Bool
+badString v b o = badStringOf v b o (le16At b o)
 
 -- R-8: string j at offset o refuses where it is present, and misplaced or malformed; the position is j.
-unfoldable pub stringFaultAt : List ℕ → ℕ → ℕ → Refusal
-stringFaultAt b o j = refuseIf (eqb o 0) none (refuseIf (badString b o) (refusal 8 j) none)
+unfoldable pub stringFaultAt : Edition → List ℕ → ℕ → ℕ → Refusal
+stringFaultAt v b o j = refuseIf (eqb o 0) none (refuseIf (badString v b o) (refusal 8 j) none)
 
 -- R-8: the same, at the offset that the footer has for string j.
-abbrev pub stringFault : List ℕ → ℕ → Refusal
-stringFault b j = stringFaultAt b (stringEntry b j) j
+abbrev pub stringFault : Edition → List ℕ → ℕ → Refusal
+stringFault v b j = stringFaultAt v b (stringEntry b j) j
 
 -- R-8, RO-2: the first faulty string.
-abbrev pub stringsFault : List ℕ → Refusal
-stringsFault b = firstFrom (stringFault b) 0 stringSlots
+abbrev pub stringsFault : Edition → List ℕ → Refusal
+stringsFault v b = firstFrom (stringFault v b) 0 stringSlots
 
 -- RO-3: 7, then 8 where there is a footer.
-unfoldable pub footerFault : List ℕ → Refusal
-footerFault b = refuseIf (badFooter b) (refusal 7 0) (refuseIf (not (hasFooter b)) none (stringsFault b))
+unfoldable pub footerFault : Edition → List ℕ → Refusal
+footerFault v b = refuseIf (badFooter v b) (refusal 7 0) (refuseIf (not (hasFooter v b)) none (stringsFault v b))

@@ -1,27 +1,28 @@
-// The footer of a SuperCard Pro image (SCP 1.6) and its strings: refusals 7 and 8.
+// The footer of a SuperCard Pro image and its strings, by any edition: refusals 7 and 8.
 ghost use mathlib.Core.Path.{_≡_};
 ghost use Prim.Native.Nat.{_+_, _<_, _≤_};
 ghost use lib.ListN.{length};
 ghost use Rattle.octets.specs.Numbers.{le16At};
 ghost use Rattle.scp_footer.specs.Footer.{badFooter, zeroWithin, badStringOf, stringFaultAt, stringsFault, footerFault};
 use refusals::Refusal;
+use scp_fields::Edition;
 
 // The oldest format of a footer that is read: 1.6 (R-7).
 const OLDEST_FORMAT: u8 = 22;
 
 // Whether the footer is flagged, and the image too short for it, or it is without its mark or too old.
-fn bad_footer(image: &[u8]) -> bool
-    ensures { λ r. ⌜ r ≡ badFooter (now (image .entry)) ⌝ }
+fn bad_footer(image: &[u8], edition: Edition) -> bool
+    ensures { λ r. ⌜ r ≡ badFooter edition (now (image .entry)) ⌝ }
 {
     let f = scp_fields::footer_at(image);
-    let flagged = scp_fields::has_footer(image);
+    let flagged = scp_fields::has_footer(image, edition);
     let b0 = octets::byte(image, f + scp_fields::FOOTER_MARK_AT);
     let b1 = octets::byte(image, f + (scp_fields::FOOTER_MARK_AT + 1));
     let b2 = octets::byte(image, f + (scp_fields::FOOTER_MARK_AT + 2));
     let b3 = octets::byte(image, f + (scp_fields::FOOTER_MARK_AT + 3));
     let format = octets::byte(image, f + scp_fields::FORMAT_AT);
     flagged
-        & ((image.len() < scp_fields::FOOTER_LEAST)
+        & ((image.len() < scp_fields::footer_least(edition))
             | (!((b0 == b'F') & ((b1 == b'P') & ((b2 == b'C') & (b3 == b'S'))))
                 | (format < OLDEST_FORMAT)))
 }
@@ -43,14 +44,14 @@ fn zero_within(image: &[u8], start: usize, n: usize) -> bool
 }
 
 // Whether a string of n bytes at offset o is misplaced or malformed.
-fn bad_string_of(image: &[u8], o: usize, n: usize) -> bool
+fn bad_string_of(image: &[u8], edition: Edition, o: usize, n: usize) -> bool
     requires { ⌜ (o < 4_294_967_296) × (n < 65_536) ⌝ }
-    ensures { λ r. ⌜ r ≡ badStringOf (now (image .entry)) o n ⌝ }
+    ensures { λ r. ⌜ r ≡ badStringOf edition (now (image .entry)) o n ⌝ }
 {
-    if o < scp_fields::TABLE_END {
+    if o < scp_fields::table_end(edition) {
         return true;
     }
-    if scp_fields::data_end(image) < o + 3 + n {
+    if scp_fields::data_end(image, edition) < o + 3 + n {
         return true;
     }
     zero_within(image, o + 2, n) | !(image[o + 2 + n] == 0)
@@ -64,28 +65,28 @@ fn number16(image: &[u8], at: usize) -> usize
 }
 
 // String j, whose offset is o.
-fn string_fault_at(image: &[u8], o: u32, j: u32) -> Refusal
-    ensures { λ r. ⌜ r ≡ stringFaultAt (now (image .entry)) o j ⌝ }
+fn string_fault_at(image: &[u8], edition: Edition, o: u32, j: u32) -> Refusal
+    ensures { λ r. ⌜ r ≡ stringFaultAt edition (now (image .entry)) o j ⌝ }
 {
     if o == 0 {
         return refusals::pass();
     }
     let at = o as usize;
     let n = number16(image, at);
-    if bad_string_of(image, at, n) {
+    if bad_string_of(image, edition, at, n) {
         return refusals::refuse(refusals::STRING, j as u64);
     }
     refusals::pass()
 }
 
 // The first faulty string.
-fn strings_fault(image: &[u8]) -> Refusal
-    ensures { λ r. ⌜ r ≡ stringsFault (now (image .entry)) ⌝ }
+fn strings_fault(image: &[u8], edition: Edition) -> Refusal
+    ensures { λ r. ⌜ r ≡ stringsFault edition (now (image .entry)) ⌝ }
 {
     let mut j: u32 = 0;
     while j < scp_fields::STRING_SLOTS {
         let o = scp_fields::string_entry(image, j);
-        let f = string_fault_at(image, o, j);
+        let f = string_fault_at(image, edition, o, j);
         if f.number != 0 {
             return f;
         }
@@ -95,14 +96,14 @@ fn strings_fault(image: &[u8]) -> Refusal
 }
 
 // What refuses the footer: 7, then 8 of the first faulty string; nothing where there is no footer.
-pub fn footer_fault(image: &[u8]) -> Refusal
-    ensures { λ r. ⌜ r ≡ footerFault (now (image .entry)) ⌝ }
+pub fn footer_fault(image: &[u8], edition: Edition) -> Refusal
+    ensures { λ r. ⌜ r ≡ footerFault edition (now (image .entry)) ⌝ }
 {
-    if bad_footer(image) {
+    if bad_footer(image, edition) {
         return refusals::refuse(refusals::FOOTER, 0);
     }
-    if scp_fields::has_footer(image) {
-        return strings_fault(image);
+    if scp_fields::has_footer(image, edition) {
+        return strings_fault(image, edition);
     }
     refusals::pass()
 }

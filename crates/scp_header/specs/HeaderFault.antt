@@ -4,15 +4,16 @@ use mathlib.Core.List.{List}
 use Rattle.refusals.specs.declared.Refusal.{Refusal}
 use Rattle.refusals.specs.Refusals.{refusal, refuseIf}
 use Rattle.scp_header.specs.HeaderTests.{badSize, badSign, badWidth, badRevolutions, badSpan, badHeads}
+use Rattle.scp_fields.specs.declared.Edition.{Edition}
 use Rattle.scp_footer.specs.Footer.{footerFault}
 
 -- RO-3: of 1 to 8 the lowest number comes first.
-unfoldable pub headFault : List ℕ → Refusal
-headFault b =
-    refuseIf (badSize b) (refusal 1 0)
+unfoldable pub headFault : Edition → List ℕ → Refusal
+headFault v b =
+    refuseIf (badSize v b) (refusal 1 0)
     (refuseIf (badSign b) (refusal 2 0)
     (refuseIf (badWidth b) (refusal 3 0)
     (refuseIf (badRevolutions b) (refusal 4 0)
-    (refuseIf (badSpan b) (refusal 5 0)
+    (refuseIf (badSpan v b) (refusal 5 0)
     (refuseIf (badHeads b) (refusal 6 0)
-    (footerFault b))))))
+    (footerFault v b))))))

@@ -5,11 +5,13 @@ use mathlib.Core.Bool.{Bool, not, _&&_, _||_}
 use lib.ListN.{length}
 use lib.Dec.{eqb, ltb}
 use Rattle.octets.specs.Numbers.{byteAt}
-use Rattle.scp_fields.specs.Header.{sizeLimit, tableEnd, lastTrack, revolutions, startTrack, endTrack, readWrite, width, heads}
+use Rattle.scp_fields.specs.declared.Edition.{Edition}
+use Rattle.scp_fields.specs.Editions.{tableEnd, lastTrack}
+use Rattle.scp_fields.specs.Header.{sizeLimit, revolutions, startTrack, endTrack, readWrite, width, heads}
 
--- R-1, Size: the length is below 688 or above 268,435,456.
-unfoldable pub badSize : List ℕ → Bool
-badSize b = ltb (length b) tableEnd || ltb sizeLimit (length b)
+-- R-1, Size: the length is below the table's end, 680 or 688, or above 268,435,456.
+unfoldable pub badSize : Edition → List ℕ → Bool
+badSize v b = ltb (length b) (tableEnd v) || ltb sizeLimit (length b)
 
 -- R-2, Sign: the image does not start with "SCP" (L-1).
 abbrev pub badSign : List ℕ → Bool
@@ -23,9 +25,9 @@ badWidth b = not (eqb (width b) 0 || eqb (width b) 16)
 abbrev pub badRevolutions : List ℕ → Bool
 badRevolutions b = eqb (revolutions b) 0 || (readWrite b && ltb 1 (revolutions b))
 
--- R-5, Span: the start track is above the end track, or the end track is above 167.
-abbrev pub badSpan : List ℕ → Bool
-badSpan b = ltb (endTrack b) (startTrack b) || ltb lastTrack (endTrack b)
+-- R-5, Span: the start track is above the end track, or the end track is above the edition's last, 165 or 167.
+abbrev pub badSpan : Edition → List ℕ → Bool
+badSpan v b = ltb (endTrack b) (startTrack b) || ltb (lastTrack v) (endTrack b)
 
 -- R-6, Heads: byte 0x0A is above 2.
 abbrev pub badHeads : List ℕ → Bool

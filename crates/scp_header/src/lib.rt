@@ -1,16 +1,16 @@
-// The header of a SuperCard Pro image (SCP 1.6): refusals 1 to 6, then those of the footer, 7 and 8.
+// The header of a SuperCard Pro image, by any edition: refusals 1 to 6, then those of the footer, 7 and 8.
 ghost use mathlib.Core.Path.{_≡_};
 ghost use Prim.Native.Nat.{_≤_};
 ghost use lib.ListN.{length};
-ghost use Rattle.scp_fields.specs.Header.{tableEnd};
 ghost use Rattle.scp_header.specs.HeaderTests.{badSign, badWidth, badRevolutions, badSpan, badHeads};
 ghost use Rattle.scp_header.specs.HeaderFault.{headFault};
 use refusals::Refusal;
+use scp_fields::Edition;
 
 // ---- the header: refusals 1 to 6
 
 fn bad_sign(image: &[u8]) -> bool
-    requires { ⌜ tableEnd ≤ length (now image) ⌝ }
+    requires { ⌜ 3 ≤ length (now image) ⌝ }
     ensures { λ r. ⌜ r ≡ badSign (now (image .entry)) ⌝ }
 {
     !((image[0] == b'S') & ((image[1] == b'C') & (image[2] == b'P')))
@@ -31,12 +31,12 @@ fn bad_revolutions(image: &[u8]) -> bool
     (n == 0) | (read_write & (1 < n))
 }
 
-fn bad_span(image: &[u8]) -> bool
-    ensures { λ r. ⌜ r ≡ badSpan (now (image .entry)) ⌝ }
+fn bad_span(image: &[u8], edition: Edition) -> bool
+    ensures { λ r. ⌜ r ≡ badSpan edition (now (image .entry)) ⌝ }
 {
     let start = scp_fields::start_track(image);
     let end = scp_fields::end_track(image);
-    (end < start) | (scp_fields::LAST_TRACK < end)
+    (end < start) | (scp_fields::last_track(edition) < end)
 }
 
 fn bad_heads(image: &[u8]) -> bool
@@ -46,11 +46,11 @@ fn bad_heads(image: &[u8]) -> bool
 }
 
 // What refuses the header or the footer: the first of refusals 1 to 8, or number 0.
-pub fn check_header(image: &[u8]) -> Refusal
-    ensures { λ r. ⌜ r ≡ headFault (now (image .entry)) ⌝ }
+pub fn check_header(image: &[u8], edition: Edition) -> Refusal
+    ensures { λ r. ⌜ r ≡ headFault edition (now (image .entry)) ⌝ }
 {
     let n = image.len();
-    if n < scp_fields::TABLE_END {
+    if n < scp_fields::table_end(edition) {
         return refusals::refuse(refusals::SIZE, 0);
     }
     if scp_fields::SIZE_LIMIT < n {
@@ -65,11 +65,11 @@ pub fn check_header(image: &[u8]) -> Refusal
     if bad_revolutions(image) {
         return refusals::refuse(refusals::REVOLUTIONS, 0);
     }
-    if bad_span(image) {
+    if bad_span(image, edition) {
         return refusals::refuse(refusals::SPAN, 0);
     }
     if bad_heads(image) {
         return refusals::refuse(refusals::HEADS, 0);
     }
-    scp_footer::footer_fault(image)
+    scp_footer::footer_fault(image, edition)
 }

@@ -1,12 +1,14 @@
-// The listing of an image, written to standard output. The image is opened once, when it is validated: what is valid is then read by its
+// The listing of an image by edition 1.6, written to standard output. The image is opened once, when it is validated: what is valid is then read by its
 // fields, each by its one reading in `scp_fields`, `scp_tracks` and `flux`.
 ghost use mathlib.Core.Path.{_≡_};
+ghost use Rattle.scp_fields.specs.declared.Edition.the-variants.{V1_6};
 ghost use Rattle.scp.specs.Answers.{ofValidated, validateAnswer};
 ghost use Rattle.refusals.specs.Refusals.{refusal};
 use flux::Cursor;
 use flux::Step;
 use refusals::Refusal;
 use scp::Validated;
+use scp_fields::Edition;
 use scp_tracks::RevolutionData;
 
 // The most bytes that the listing program takes.
@@ -149,9 +151,9 @@ fn print_tracks(image: &[u8]) {
 
 // Validates an image and writes its listing: what refuses it, or a line for the image and one for each revolution of each present track.
 pub fn list(image: &[u8]) -> Validated
-    ensures { λ r. ⌜ ofValidated r ≡ validateAnswer (now (image .entry)) ⌝ }
+    ensures { λ r. ⌜ ofValidated r ≡ validateAnswer V1_6 (now (image .entry)) ⌝ }
 {
-    let answer = scp::validate(image);
+    let answer = scp::validate(image, Edition::V1_6);
     match answer {
         Validated::Valid => {
             print_image(image);

@@ -3,6 +3,7 @@ use Prim.Native.Nat.{ℕ}
 use mathlib.Core.List.{List}
 use mathlib.Core.Bool.{cond}
 use Rattle.refusals.specs.Refusals.{passes}
+use Rattle.scp_fields.specs.declared.Edition.{Edition}
 use Rattle.scp_fields.specs.Header.{trackEntry}
 use Rattle.scp_tracks.specs.Revolutions.{dataOf}
 use Rattle.scp_lookup.specs.Questions.{trackQuestion, revolutionQuestion}
@@ -12,12 +13,12 @@ use Rattle.scp_lookup.specs.declared.RevolutionAnswer.{RevolutionAnswer}
 use Rattle.scp_lookup.specs.declared.RevolutionAnswer.the-variants as revolution-answer
 
 -- RO-6, R-13: the entry of track t, or what refuses it: 1 to 11, then 13.
-unfoldable pub foundTrack : List ℕ → ℕ → Entry
-foundTrack b t = cond (passes (trackQuestion b t)) (entry.At (trackEntry b t)) (entry.Refused (trackQuestion b t))
+unfoldable pub foundTrack : Edition → List ℕ → ℕ → Entry
+foundTrack v b t = cond (passes (trackQuestion v b t)) (entry.At (trackEntry b t)) (entry.Refused (trackQuestion v b t))
 
 -- RO-6, T-6: the numbers of revolution k of track t, or what refuses it: 1 to 11, then 13, then 14.
-unfoldable pub foundRevolution : List ℕ → ℕ → ℕ → RevolutionAnswer
-foundRevolution b t k =
-    cond (passes (revolutionQuestion b t k))
+unfoldable pub foundRevolution : Edition → List ℕ → ℕ → ℕ → RevolutionAnswer
+foundRevolution v b t k =
+    cond (passes (revolutionQuestion v b t k))
     (revolution-answer.Found (dataOf b (trackEntry b t) k))
-    (revolution-answer.Refused (revolutionQuestion b t k))
+    (revolution-answer.Refused (revolutionQuestion v b t k))

@@ -3,6 +3,7 @@
 ghost use mathlib.Core.Path.{_≡_};
 ghost use Rattle.scp_lookup.specs.Lookups.{foundTrack, foundRevolution};
 use refusals::Refusal;
+use scp_fields::Edition;
 use scp_tracks::Revolution;
 use scp_tracks::RevolutionData;
 
@@ -19,16 +20,16 @@ pub enum RevolutionAnswer {
 }
 
 // The table's entry of a track: 1 to 11, then 13.
-pub fn find_track(image: &[u8], track: u32) -> Entry
-    ensures { λ r. ⌜ r ≡ foundTrack (now (image .entry)) track ⌝ }
+pub fn find_track(image: &[u8], edition: Edition, track: u32) -> Entry
+    ensures { λ r. ⌜ r ≡ foundTrack edition (now (image .entry)) track ⌝ }
 {
-    let opened = scp_open::open(image);
+    let opened = scp_open::open(image, edition);
     let refusal = opened.refusal;
     if refusal.number != 0 {
         return Entry::Refused(refusal);
     }
     let t = track as usize;
-    if scp_fields::TRACK_SLOTS <= t {
+    if scp_fields::slots(edition) <= t {
         return Entry::Refused(refusals::refuse(refusals::ABSENT, 0));
     }
     let table = opened.table;
@@ -40,10 +41,10 @@ pub fn find_track(image: &[u8], track: u32) -> Entry
 }
 
 // A revolution of a track: 1 to 11, then 13, then 14.
-pub fn find_revolution(image: &[u8], track: u32, k: u32) -> RevolutionAnswer
-    ensures { λ r. ⌜ r ≡ foundRevolution (now (image .entry)) track k ⌝ }
+pub fn find_revolution(image: &[u8], edition: Edition, track: u32, k: u32) -> RevolutionAnswer
+    ensures { λ r. ⌜ r ≡ foundRevolution edition (now (image .entry)) track k ⌝ }
 {
-    let found = find_track(image, track);
+    let found = find_track(image, edition, track);
     match found {
         Entry::At(entry) => {
             let revolution = scp_tracks::revolution_at(image, entry, k);

@@ -5,6 +5,7 @@ use mathlib.Core.Bool.{cond}
 use lib.ListN.{replicate}
 use Rattle.refusals.specs.declared.Refusal.{Refusal}
 use Rattle.refusals.specs.Refusals.{passes, firstOf}
+use Rattle.scp_fields.specs.declared.Edition.{Edition}
 use Rattle.scp_fields.specs.Header.{trackSlots, version, disk, revolutions, startTrack, endTrack, flags, width, heads, storedSum, entries}
 use Rattle.scp_header.specs.HeaderFault.{headFault}
 use Rattle.scp_tracks.specs.Tracks.{tracksFault}
@@ -12,8 +13,8 @@ use Rattle.scp_open.specs.declared.Header.{Header}
 use Rattle.scp_open.specs.declared.Opened.{Opened}
 
 -- RO-4, T-1: what refuses the image: 1 to 8, then the tracks with 9 to 11.
-unfoldable pub openFault : List ℕ → Refusal
-openFault b = firstOf (headFault b) (tracksFault b)
+unfoldable pub openFault : Edition → List ℕ → Refusal
+openFault v b = firstOf (headFault v b) (tracksFault v b)
 
 -- T-1: the header as it is handed out.
 unfoldable pub headerOf : List ℕ → Header
@@ -36,13 +37,13 @@ noHeader =
     record { version = 0; disk = 0; revolutions = 0; start = 0; end = 0; flags = 0; width = 0; heads = 0; checksum = 0 }
 
 -- T-1: an image that is not refused, with its header and its table.
-abbrev pub openedImage : Refusal → List ℕ → Opened
-openedImage f b = record { refusal = f; header = headerOf b; table = entries b }
+abbrev pub openedImage : Refusal → Edition → List ℕ → Opened
+openedImage f v b = record { refusal = f; header = headerOf b; table = entries v b }
 
 -- T-1: a refused image: no header, and no track in the table.
 abbrev pub refusedImage : Refusal → Opened
 refusedImage f = record { refusal = f; header = noHeader; table = replicate trackSlots 0 }
 
 -- T-1: what opening gives.
-unfoldable pub openedOf : List ℕ → Opened
-openedOf b = cond (passes (openFault b)) (openedImage (openFault b) b) (refusedImage (openFault b))
+unfoldable pub openedOf : Edition → List ℕ → Opened
+openedOf v b = cond (passes (openFault v b)) (openedImage (openFault v b) v b) (refusedImage (openFault v b))

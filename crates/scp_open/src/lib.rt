@@ -1,10 +1,11 @@
-// Opening a SuperCard Pro image (SCP 1.6): refusals 1 to 11, its header and its table of tracks.
+// Opening a SuperCard Pro image by an edition: refusals 1 to 11, its header and its table of tracks.
 // Opening looks at the header, the table, the footer with its strings, and the track data headers; it reads no flux.
 ghost use mathlib.Core.Path.{_≡_};
 ghost use Rattle.scp_fields.specs.Header.{entries};
 ghost use Rattle.scp_tracks.specs.Tracks.{tracksFault};
 ghost use Rattle.scp_open.specs.Opening.{headerOf, refusedImage, openedOf};
 use refusals::Refusal;
+use scp_fields::Edition;
 
 // The header's fields (T-3).
 pub struct Header {
@@ -19,7 +20,8 @@ pub struct Header {
     pub checksum: u32,
 }
 
-// An opened image: why it is refused (number 0: it is not), its header and its table. Beside a refusal header and table are zeros.
+// An opened image: why it is refused (number 0: it is not), its header and its table, with zeros behind the edition's entries. Beside a
+// refusal header and table are zeros.
 pub struct Opened {
     pub refusal: Refusal,
     pub header: Header,
@@ -27,12 +29,13 @@ pub struct Opened {
 }
 
 // The entries of the table.
-fn read_table(image: &[u8]) -> [u32; 168]
-    ensures { λ r. ⌜ r ≡ entries (now (image .entry)) ⌝ }
+fn read_table(image: &[u8], edition: Edition) -> [u32; 168]
+    ensures { λ r. ⌜ r ≡ entries edition (now (image .entry)) ⌝ }
 {
+    let n = scp_fields::slots(edition);
     let mut table = [0u32; 168];
     let mut t: usize = 0;
-    while t < scp_fields::TRACK_SLOTS {
+    while t < n {
         table[t] = scp_fields::track_entry(image, t as u32);
         t += 1;
     }
@@ -40,13 +43,14 @@ fn read_table(image: &[u8]) -> [u32; 168]
 }
 
 // The first faulty track, from the table's entries.
-fn tracks_fault(image: &[u8], table: &[u32; 168]) -> Refusal
-    requires { ⌜ now table ≡ entries (now image) ⌝ }
-    ensures { λ r. ⌜ r ≡ tracksFault (now (image .entry)) ⌝ }
+fn tracks_fault(image: &[u8], edition: Edition, table: &[u32; 168]) -> Refusal
+    requires { ⌜ now table ≡ entries edition (now image) ⌝ }
+    ensures { λ r. ⌜ r ≡ tracksFault edition (now (image .entry)) ⌝ }
 {
+    let n = scp_fields::slots(edition);
     let mut t: usize = 0;
-    while t < scp_fields::TRACK_SLOTS {
-        let f = scp_tracks::track_fault(image, table[t], t as u32);
+    while t < n {
+        let f = scp_tracks::track_fault(image, edition, table[t], t as u32);
         if f.number != 0 {
             return f;
         }
@@ -93,16 +97,16 @@ fn refused_image(refusal: Refusal) -> Opened
     }
 }
 
-// Opens an image: refusals 1 to 11, its header and its table.
-pub fn open(image: &[u8]) -> Opened
-    ensures { λ r. ⌜ r ≡ openedOf (now (image .entry)) ⌝ }
+// Opens an image by an edition: refusals 1 to 11, its header and its table.
+pub fn open(image: &[u8], edition: Edition) -> Opened
+    ensures { λ r. ⌜ r ≡ openedOf edition (now (image .entry)) ⌝ }
 {
-    let first = scp_header::check_header(image);
+    let first = scp_header::check_header(image, edition);
     if first.number != 0 {
         return refused_image(first);
     }
-    let table = read_table(image);
-    let refusal = tracks_fault(image, &table);
+    let table = read_table(image, edition);
+    let refusal = tracks_fault(image, edition, &table);
     if refusal.number != 0 {
         return refused_image(refusal);
     }

@@ -7,13 +7,15 @@ use mathlib.Core.Bool.{true, false}
 use lib.ListN.{length, take, drop}
 use Rattle.octets.specs.Numbers.{byteAt}
 use Rattle.refusals.specs.Refusals.{none, refusal, passes}
-use Rattle.scp_fields.specs.Header.{checksumAt, storedSum, trueSum, trackEntry}
+use Rattle.scp_fields.specs.declared.Edition.{Edition}
+use Rattle.scp_fields.specs.Header.{checksumAt, revolutions, storedSum, trueSum, trackEntry}
 use Rattle.scp_tracks.specs.Tracks.{durationAt, countAt, fluxAt}
+use Rattle.scp_open.specs.Opening.{openFault}
 use Rattle.scp_lookup.specs.Questions.{revolutionQuestion}
 use Rattle.scp_sharing.specs.Extents.{extent, In}
 use Rattle.scp_sharing.specs.RewriteFault.{badWords, rewriteFault}
 use Rattle.scp_rewrite.specs.Rewriting.{afterRewrite}
-use Rattle.scp_sharing.specs.Sharing.{InNumbers, ClaimedTwice}
+use Rattle.scp_sharing.specs.Sharing.{Present, InNumbers, ClaimedTwice}
 
 -- ---- how a revolution reads
 
@@ -57,26 +59,35 @@ pub record Rewrites (b q : List ℕ) (t k d : ℕ) (ws : List ℕ) : Type 0 wher
       (i : ℕ) → (InNumbers b t k i → ⊥) → (In i (extent (fluxAt b (trackEntry b t) k) (length ws)) → ⊥) → (In i (extent checksumAt 4) → ⊥)
       → byteAt q i ≡ byteAt b i
 
--- W-7: a rewrite is refused by what refuses the question for its revolution, else by its words, else as shared, and by nothing more; a refused
--- one leaves the bytes, and an accepted one sets its own and no others.
-pub record RewriteDoes (b : List ℕ) (t k d : ℕ) (ws : List ℕ) : Type 0 where
+-- S-8, V-6: by the edition v that an accepted rewrite names, the image that it makes of b opens, the revolution reads as put, and every other
+-- as before.
+pub record ReadsAfter (v : Edition) (b q : List ℕ) (t k d : ℕ) (ws : List ℕ) : Type 0 where
+  pub opens : openFault v q ≡ none
+  pub own : reading q t k ≡ put (reading b t k) d ws
+  pub others : (u j : ℕ) → Present v b u → j < revolutions b → ((u ≡ t) × (j ≡ k) → ⊥) → reading q u j ≡ reading b u j
+
+-- W-7, V-6: a rewrite is refused by what refuses the question for its revolution, else by its words, else as shared, and by nothing more, all by
+-- the edition v that it names; a refused one leaves the bytes, and an accepted one sets its own and no others.
+pub record RewriteDoes (v : Edition) (b : List ℕ) (t k d : ℕ) (ws : List ℕ) : Type 0 where
   -- 1 to 11, then 13, 14: with the number and position of the question
-  pub earlier : revolutionQuestion b t k ≢ none → rewriteFault b t k ws ≡ revolutionQuestion b t k
+  pub earlier : revolutionQuestion v b t k ≢ none → rewriteFault v b t k ws ≡ revolutionQuestion v b t k
   -- then 17, if the words are bad
   pub words :
-      revolutionQuestion b t k ≡ none → badWords (countAt b (trackEntry b t) k) (length ws) ≡ true
-      → rewriteFault b t k ws ≡ refusal 17 0
+      revolutionQuestion v b t k ≡ none → badWords (countAt b (trackEntry b t) k) (length ws) ≡ true
+      → rewriteFault v b t k ws ≡ refusal 17 0
   -- then 18, exactly if a byte is claimed twice
   pub shared :
-      revolutionQuestion b t k ≡ none → badWords (countAt b (trackEntry b t) k) (length ws) ≡ false
-      → (rewriteFault b t k ws ≡ refusal 18 0) ↔ ClaimedTwice b t k
+      revolutionQuestion v b t k ≡ none → badWords (countAt b (trackEntry b t) k) (length ws) ≡ false
+      → (rewriteFault v b t k ws ≡ refusal 18 0) ↔ ClaimedTwice v b t k
   -- accepted if none of these refuses it; 12 is not among them
   pub accepts :
-      revolutionQuestion b t k ≡ none → badWords (countAt b (trackEntry b t) k) (length ws) ≡ false → (ClaimedTwice b t k → ⊥)
-      → rewriteFault b t k ws ≡ none
-  pub refused : passes (rewriteFault b t k ws) ≡ false → afterRewrite b t k d ws ≡ b
-  pub accepted : passes (rewriteFault b t k ws) ≡ true → Rewrites b (afterRewrite b t k d ws) t k d ws
+      revolutionQuestion v b t k ≡ none → badWords (countAt b (trackEntry b t) k) (length ws) ≡ false → (ClaimedTwice v b t k → ⊥)
+      → rewriteFault v b t k ws ≡ none
+  pub refused : passes (rewriteFault v b t k ws) ≡ false → afterRewrite v b t k d ws ≡ b
+  pub accepted : passes (rewriteFault v b t k ws) ≡ true → Rewrites b (afterRewrite v b t k d ws) t k d ws
+  -- and then its own revolution reads as put, and every other as before
+  pub reads : passes (rewriteFault v b t k ws) ≡ true → ReadsAfter v b (afterRewrite v b t k d ws) t k d ws
 
--- W-7: every rewrite does so, whose duration is a 32-bit number.
+-- W-7: every rewrite does so, whatever edition it names, whose duration is a 32-bit number.
 abbrev pub EveryRewrite : Type 0
-EveryRewrite = (b : List ℕ) (t k d : ℕ) (ws : List ℕ) → d < 4_294_967_296 → RewriteDoes b t k d ws
+EveryRewrite = (v : Edition) (b : List ℕ) (t k d : ℕ) (ws : List ℕ) → d < 4_294_967_296 → RewriteDoes v b t k d ws

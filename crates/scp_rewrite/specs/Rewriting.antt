@@ -6,6 +6,7 @@ use lib.ListN.{length}
 use lib.Seq.{sets}
 use Rattle.octets.specs.Numbers.{leBytes}
 use Rattle.refusals.specs.Refusals.{passes}
+use Rattle.scp_fields.specs.declared.Edition.{Edition}
 use Rattle.scp_fields.specs.Header.{checksumAt, readWrite, storedSum, trueSum, trackEntry}
 use Rattle.scp_tracks.specs.Tracks.{revolutionAt, fluxAt}
 use Rattle.scp_sharing.specs.RewriteFault.{rewriteFault}
@@ -32,5 +33,5 @@ abbrev pub rewritten : List ℕ → ℕ → ℕ → ℕ → List ℕ → List �
 rewritten b t k d ws = summed b (patched b (trackEntry b t) k d ws)
 
 -- W-10: the image after the call; a refused rewrite leaves it.
-unfoldable pub afterRewrite : List ℕ → ℕ → ℕ → ℕ → List ℕ → List ℕ
-afterRewrite b t k d ws = cond (passes (rewriteFault b t k ws)) (rewritten b t k d ws) b
+unfoldable pub afterRewrite : Edition → List ℕ → ℕ → ℕ → ℕ → List ℕ → List ℕ
+afterRewrite v b t k d ws = cond (passes (rewriteFault v b t k ws)) (rewritten b t k d ws) b

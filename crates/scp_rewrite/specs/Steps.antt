@@ -6,16 +6,17 @@ use mathlib.Core.List.{List}
 use lib.ListN.{length, take, drop}
 use lib.Seq.{sets}
 use Rattle.octets.specs.Sums.{byteSum}
-use Rattle.scp_fields.specs.Header.{tableEnd, sizeLimit}
+use Rattle.scp_fields.specs.Editions.{tableAt}
+use Rattle.scp_fields.specs.Header.{sizeLimit}
 use Rattle.scp_tracks.specs.Tracks.{revolutionAt, fluxAt}
 
--- What patching starts from: the numbers of revolution k of the track header at e and n bytes of its flux lie behind the table and
+-- What patching starts from: the numbers of revolution k of the track header at e and n bytes of its flux lie behind the checksum and
 -- inside an image of an admitted size.
 pub record Patchable (b : List ℕ) (e k n : ℕ) : Type 0 where
   pub most : length b ≤ sizeLimit
-  pub low : tableEnd ≤ revolutionAt e k
+  pub low : tableAt ≤ revolutionAt e k
   pub high : revolutionAt e k + 8 ≤ length b
-  pub fluxLow : tableEnd ≤ fluxAt b e k
+  pub fluxLow : tableAt ≤ fluxAt b e k
   pub fluxHigh : fluxAt b e k + n ≤ length b
 
 -- A store of vs at i leaves q of p, and moves the sum s to r: what is put is added and what was there is taken away, modulo 2^32.

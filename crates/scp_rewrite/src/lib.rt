@@ -4,11 +4,13 @@ ghost use mathlib.Core.Path.{_≡_};
 ghost use Prim.Native.Nat.{_+_, _≤_};
 ghost use lib.ListN.{length};
 ghost use Rattle.octets.specs.Numbers.{leBytes};
-ghost use Rattle.scp_fields.specs.Header.{tableEnd, storedSum};
+ghost use Rattle.scp_fields.specs.Editions.{tableAt};
+ghost use Rattle.scp_fields.specs.Header.{storedSum};
 ghost use Rattle.scp_rewrite.specs.Rewriting.{patched, movedSum, summed, afterRewrite};
 ghost use Rattle.scp_rewrite.specs.Answering.{ofRewritten, rewriteAnswer};
 ghost use Rattle.scp_rewrite.specs.Steps.{Patchable, Stored};
 use refusals::Refusal;
+use scp_fields::Edition;
 
 // Whether a revolution was rewritten.
 pub enum Rewritten {
@@ -44,7 +46,7 @@ fn four_bytes(v: u32) -> [u8; 4]
 
 // The checksum as it is stored, right or wrong: a rewrite moves it and never sums afresh (W-11).
 fn stored_sum(image: &[u8]) -> u32
-    requires { ⌜ tableEnd ≤ length (now image) ⌝ }
+    requires { ⌜ tableAt ≤ length (now image) ⌝ }
     ensures { λ r. ⌜ r ≡ storedSum (now (image .entry)) ⌝ }
 {
     scp_fields::checksum(image)
@@ -79,18 +81,20 @@ fn patch_summed(image: &mut [u8], e: u32, k: u32, duration: u32, words: &[u8])
     octets::put_le32(image, scp_fields::CHECKSUM_AT, sum);
 }
 
-// Rewrites one revolution: its duration, its words as big-endian bytes, and their count. A refused rewrite changes nothing.
+// Rewrites one revolution, by the edition that is named: its duration, its words as big-endian bytes, and their count. A refused rewrite
+// changes nothing.
 pub fn rewrite(
     image: &mut [u8],
+    edition: Edition,
     track: u32,
     revolution: u32,
     duration: u32,
     words: &[u8],
 ) -> Rewritten
-    ensures { λ r. ⌜ ofRewritten r ≡ rewriteAnswer (now (image .entry)) track revolution (now (words .entry)) ⌝ }
-    ensures { λ _. ⌜ now (image .exit) ≡ afterRewrite (now (image .entry)) track revolution duration (now (words .entry)) ⌝ }
+    ensures { λ r. ⌜ ofRewritten r ≡ rewriteAnswer edition (now (image .entry)) track revolution (now (words .entry)) ⌝ }
+    ensures { λ _. ⌜ now (image .exit) ≡ afterRewrite edition (now (image .entry)) track revolution duration (now (words .entry)) ⌝ }
 {
-    let found = scp_sharing::rewrite_fault(image, track, revolution, words);
+    let found = scp_sharing::rewrite_fault(image, edition, track, revolution, words);
     if found.number != 0 {
         return Rewritten::Refused(found);
     }

@@ -12,6 +12,7 @@ use scp::SpeedAnswer;
 use scp::TrackAnswer;
 use scp::TrackSpeedAnswer;
 use scp::Validated;
+use scp_fields::Edition;
 use scp_lookup::RevolutionAnswer;
 use scp_speed::Speed;
 
@@ -57,10 +58,10 @@ pub fn refused_row(refusal: Refusal) -> [u64; 16]
 }
 
 // The row of validating.
-fn validate_row(image: &[u8]) -> [u64; 16]
-    ensures { λ r. ⌜ r ≡ rowOf (validateAnswer (now (image .entry))) ⌝ }
+fn validate_row(image: &[u8], edition: Edition) -> [u64; 16]
+    ensures { λ r. ⌜ r ≡ rowOf (validateAnswer edition (now (image .entry))) ⌝ }
 {
-    let found = scp::validate(image);
+    let found = scp::validate(image, edition);
     match found {
         Validated::Valid => plain_row(),
         Validated::Refused(r) => refused_row(r),
@@ -68,10 +69,10 @@ fn validate_row(image: &[u8]) -> [u64; 16]
 }
 
 // The row of the header.
-fn header_row(image: &[u8]) -> [u64; 16]
-    ensures { λ r. ⌜ r ≡ rowOf (headerAnswer (now (image .entry))) ⌝ }
+fn header_row(image: &[u8], edition: Edition) -> [u64; 16]
+    ensures { λ r. ⌜ r ≡ rowOf (headerAnswer edition (now (image .entry))) ⌝ }
 {
-    let found = scp::header(image);
+    let found = scp::header(image, edition);
     match found {
         HeaderAnswer::Found(h) => values_row(&scp_values::header_numbers(h)),
         HeaderAnswer::Refused(r) => refused_row(r),
@@ -79,10 +80,10 @@ fn header_row(image: &[u8]) -> [u64; 16]
 }
 
 // The row of the footer.
-fn footer_row(image: &[u8]) -> [u64; 16]
-    ensures { λ r. ⌜ r ≡ rowOf (footerAnswer (now (image .entry))) ⌝ }
+fn footer_row(image: &[u8], edition: Edition) -> [u64; 16]
+    ensures { λ r. ⌜ r ≡ rowOf (footerAnswer edition (now (image .entry))) ⌝ }
 {
-    let found = scp::footer(image);
+    let found = scp::footer(image, edition);
     match found {
         FooterAnswer::Found(f) => values_row(&scp_values::footer_numbers(f)),
         FooterAnswer::None => plain_row(),
@@ -91,10 +92,10 @@ fn footer_row(image: &[u8]) -> [u64; 16]
 }
 
 // The row of a track.
-fn track_row(image: &[u8], track: u32) -> [u64; 16]
-    ensures { λ r. ⌜ r ≡ rowOf (trackAnswer (now (image .entry)) track) ⌝ }
+fn track_row(image: &[u8], edition: Edition, track: u32) -> [u64; 16]
+    ensures { λ r. ⌜ r ≡ rowOf (trackAnswer edition (now (image .entry)) track) ⌝ }
 {
-    let found = scp::track(image, track);
+    let found = scp::track(image, edition, track);
     match found {
         TrackAnswer::Found(d) => values_row(&scp_values::track_numbers(d)),
         TrackAnswer::Refused(r) => refused_row(r),
@@ -102,10 +103,10 @@ fn track_row(image: &[u8], track: u32) -> [u64; 16]
 }
 
 // The row of a revolution.
-fn revolution_row(image: &[u8], track: u32, revolution: u32) -> [u64; 16]
-    ensures { λ r. ⌜ r ≡ rowOf (revolutionAnswer (now (image .entry)) track revolution) ⌝ }
+fn revolution_row(image: &[u8], edition: Edition, track: u32, revolution: u32) -> [u64; 16]
+    ensures { λ r. ⌜ r ≡ rowOf (revolutionAnswer edition (now (image .entry)) track revolution) ⌝ }
 {
-    let found = scp::revolution(image, track, revolution);
+    let found = scp::revolution(image, edition, track, revolution);
     match found {
         RevolutionAnswer::Found(d) => values_row(&scp_values::revolution_numbers(d)),
         RevolutionAnswer::Refused(r) => refused_row(r),
@@ -121,10 +122,10 @@ fn bytes_row(start: u64, part: &[u8]) -> [u64; 16]
 }
 
 // The row of a revolution's flux.
-fn flux_row(image: &[u8], track: u32, revolution: u32) -> [u64; 16]
-    ensures { λ r. ⌜ r ≡ rowOf (fluxAnswer (now (image .entry)) track revolution) ⌝ }
+fn flux_row(image: &[u8], edition: Edition, track: u32, revolution: u32) -> [u64; 16]
+    ensures { λ r. ⌜ r ≡ rowOf (fluxAnswer edition (now (image .entry)) track revolution) ⌝ }
 {
-    let answer = scp::revolution(image, track, revolution);
+    let answer = scp::revolution(image, edition, track, revolution);
     match answer {
         RevolutionAnswer::Found(d) => {
             let offset = d.offset;
@@ -146,10 +147,10 @@ fn rpm_row(s: Speed) -> [u64; 16]
 }
 
 // The row of a revolution's speed.
-fn speed_row(image: &[u8], track: u32, revolution: u32) -> [u64; 16]
-    ensures { λ r. ⌜ r ≡ rowOf (speedAnswer (now (image .entry)) track revolution) ⌝ }
+fn speed_row(image: &[u8], edition: Edition, track: u32, revolution: u32) -> [u64; 16]
+    ensures { λ r. ⌜ r ≡ rowOf (speedAnswer edition (now (image .entry)) track revolution) ⌝ }
 {
-    let found = scp::speed(image, track, revolution);
+    let found = scp::speed(image, edition, track, revolution);
     match found {
         SpeedAnswer::Found(s) => rpm_row(s),
         SpeedAnswer::Refused(r) => refused_row(r),
@@ -157,10 +158,10 @@ fn speed_row(image: &[u8], track: u32, revolution: u32) -> [u64; 16]
 }
 
 // The row of a track's speeds.
-fn track_speed_row(image: &[u8], track: u32) -> [u64; 16]
-    ensures { λ r. ⌜ r ≡ rowOf (trackSpeedAnswer (now (image .entry)) track) ⌝ }
+fn track_speed_row(image: &[u8], edition: Edition, track: u32) -> [u64; 16]
+    ensures { λ r. ⌜ r ≡ rowOf (trackSpeedAnswer edition (now (image .entry)) track) ⌝ }
 {
-    let found = scp::track_speed(image, track);
+    let found = scp::track_speed(image, edition, track);
     match found {
         TrackSpeedAnswer::Found(s) => values_row(
             &[1, f64::to_bits(s.slowest), f64::to_bits(s.fastest)],
@@ -170,30 +171,36 @@ fn track_speed_row(image: &[u8], track: u32) -> [u64; 16]
     }
 }
 
-// The row of a question, by its kind.
-pub fn question_row(image: &[u8], kind: u64, track: u32, revolution: u32) -> [u64; 16]
-    ensures { λ r. ⌜ r ≡ rowOf (asked (now (image .entry)) (questionOf kind track revolution)) ⌝ }
+// The row of a question, by its kind and the edition that it names.
+pub fn question_row(
+    image: &[u8],
+    edition: Edition,
+    kind: u64,
+    track: u32,
+    revolution: u32,
+) -> [u64; 16]
+    ensures { λ r. ⌜ r ≡ rowOf (asked edition (now (image .entry)) (questionOf kind track revolution)) ⌝ }
 {
     if kind == HEADER {
-        return header_row(image);
+        return header_row(image, edition);
     }
     if kind == FOOTER {
-        return footer_row(image);
+        return footer_row(image, edition);
     }
     if kind == TRACK {
-        return track_row(image, track);
+        return track_row(image, edition, track);
     }
     if kind == REVOLUTION {
-        return revolution_row(image, track, revolution);
+        return revolution_row(image, edition, track, revolution);
     }
     if kind == FLUX {
-        return flux_row(image, track, revolution);
+        return flux_row(image, edition, track, revolution);
     }
     if kind == SPEED {
-        return speed_row(image, track, revolution);
+        return speed_row(image, edition, track, revolution);
     }
     if kind == TRACK_SPEED {
-        return track_speed_row(image, track);
+        return track_speed_row(image, edition, track);
     }
-    validate_row(image)
+    validate_row(image, edition)
 }

@@ -1,10 +1,12 @@
--- What a rewrite stands on, and what others claim: one list of extents (W-2, W-3, W-5).
+-- What a rewrite stands on, and what others claim by the edition that it names: one list of extents (W-2, W-3, W-5).
 use Prim.Native.Nat.{ℕ, _+_, _*_}
 use mathlib.Core.List.{List, [], _∷_, _++_}
 use mathlib.Core.Bool.{Bool, _&&_, _||_, cond}
 use lib.Dec.{eqb}
 use Rattle.octets.specs.Numbers.{le16At}
-use Rattle.scp_fields.specs.Header.{tableEnd, trackSlots, footerSize, revolutions, hasFooter, trackEntry}
+use Rattle.scp_fields.specs.declared.Edition.{Edition}
+use Rattle.scp_fields.specs.Editions.{slots, tableEnd}
+use Rattle.scp_fields.specs.Header.{footerSize, revolutions, hasFooter, trackEntry}
 use Rattle.scp_fields.specs.Footer.{footerAt, stringSlots, stringEntry}
 use Rattle.scp_tracks.specs.Tracks.{headerSize, revolutionAt, countAt, fluxAt}
 use Rattle.scp_sharing.specs.Extents.{extent, between, meets, anyOf, joined}
@@ -49,9 +51,9 @@ trackClaim b t k u e = cond (eqb e 0) [] (headerClaims b t k u e ++ fluxClaims b
 abbrev pub trackClaimAt : List ℕ → ℕ → ℕ → ℕ → List Extent
 trackClaimAt b t k u = trackClaim b t k u (trackEntry b u)
 
--- W-3: all tracks.
-abbrev pub trackClaims : List ℕ → ℕ → ℕ → List Extent
-trackClaims b t k = joined (trackClaimAt b t k) 0 trackSlots
+-- W-3: all tracks of the edition's table.
+abbrev pub trackClaims : Edition → List ℕ → ℕ → ℕ → List Extent
+trackClaims v b t k = joined (trackClaimAt b t k) 0 (slots v)
 
 -- W-3: the string at offset o, with its length and its zero byte.
 abbrev pub stringExtent : List ℕ → ℕ → Extent
@@ -70,13 +72,13 @@ abbrev pub stringClaims : List ℕ → List Extent
 stringClaims b = joined (stringClaimAt b) 0 stringSlots
 
 -- W-3: the footer and its strings.
-unfoldable pub footerClaims : List ℕ → List Extent
-footerClaims b = cond (hasFooter b) (extent (footerAt b) footerSize ∷ stringClaims b) []
+unfoldable pub footerClaims : Edition → List ℕ → List Extent
+footerClaims v b = cond (hasFooter v b) (extent (footerAt b) footerSize ∷ stringClaims b) []
 
--- W-3: the first 688 bytes, and all of the above.
-unfoldable pub claims : List ℕ → ℕ → ℕ → List Extent
-claims b t k = extent 0 tableEnd ∷ (trackClaims b t k ++ footerClaims b)
+-- W-3: the first 680 or 688 bytes, header and table, and all of the above.
+unfoldable pub claims : Edition → List ℕ → ℕ → ℕ → List Extent
+claims v b t k = extent 0 (tableEnd v) ∷ (trackClaims v b t k ++ footerClaims v b)
 
 -- W-5, R-18: a byte that the rewrite stands on is claimed by others, or its 8 bytes and its flux have one in common.
-unfoldable pub shared : List ℕ → Stand → ℕ → ℕ → Bool
-shared b s t k = meets (s .numbers) (s .flux) || anyOf (hit s) (claims b t k)
+unfoldable pub shared : Edition → List ℕ → Stand → ℕ → ℕ → Bool
+shared v b s t k = meets (s .numbers) (s .flux) || anyOf (hit s) (claims v b t k)

@@ -7,6 +7,7 @@ use lib.Dec.{ltb}
 use Rattle.refusals.specs.declared.Refusal.{Refusal}
 use Rattle.refusals.specs.Refusals.{none, refusal, refuseIf}
 use Rattle.flux.specs.Coding.{badFluxSize}
+use Rattle.scp_fields.specs.declared.Edition.{Edition}
 use Rattle.scp_fields.specs.Header.{trackEntry}
 use Rattle.scp_tracks.specs.Tracks.{countAt}
 use Rattle.scp_lookup.specs.Questions.{revolutionThen}
@@ -17,10 +18,10 @@ abbrev pub badWords : ℕ → ℕ → Bool
 badWords words n = badFluxSize n || ltb (2 * words) n
 
 -- RO-6: 17, then 18, of revolution k of the track data header at e.
-unfoldable pub wordsThenShared : List ℕ → ℕ → ℕ → ℕ → ℕ → Refusal
-wordsThenShared b e t k n =
-    refuseIf (badWords (countAt b e k) n) (refusal 17 0) (refuseIf (shared b (standAt b e k) t k) (refusal 18 0) none)
+unfoldable pub wordsThenShared : Edition → List ℕ → ℕ → ℕ → ℕ → ℕ → Refusal
+wordsThenShared v b e t k n =
+    refuseIf (badWords (countAt b e k) n) (refusal 17 0) (refuseIf (shared v b (standAt b e k) t k) (refusal 18 0) none)
 
 -- W-7: what refuses the rewrite: 1 to 11, 13, 14, 17, 18.
-unfoldable pub rewriteFault : List ℕ → ℕ → ℕ → List ℕ → Refusal
-rewriteFault b t k ws = revolutionThen b t k (wordsThenShared b (trackEntry b t) t k (length ws))
+unfoldable pub rewriteFault : Edition → List ℕ → ℕ → ℕ → List ℕ → Refusal
+rewriteFault v b t k ws = revolutionThen v b t k (wordsThenShared v b (trackEntry b t) t k (length ws))

@@ -4,7 +4,9 @@ use Prim.Native.Nat.{ℕ, _+_, _<_, _≤_}
 use mathlib.Core.Logic.{_≢_}
 use mathlib.Core.List.{List}
 use lib.ListN.{length}
-use Rattle.scp_fields.specs.Header.{trackSlots, revolutions, trackEntry}
+use Rattle.scp_fields.specs.declared.Edition.{Edition}
+use Rattle.scp_fields.specs.Editions.{slots}
+use Rattle.scp_fields.specs.Header.{revolutions, trackEntry}
 use Rattle.scp_tracks.specs.Tracks.{headerSize}
 use Rattle.scp_sharing.specs.declared.Stand.{Stand}
 
@@ -19,6 +21,6 @@ abbrev pub Inside : List ℕ → ℕ → Type 0
 Inside b e = e + headerSize b ≤ length b
 
 -- What the walk starts from: the image has revolution k, and all its track headers lie inside.
-pub record Walkable (b : List ℕ) (k : ℕ) : Type 0 where
+pub record Walkable (v : Edition) (b : List ℕ) (k : ℕ) : Type 0 where
   pub below : k < revolutions b
-  pub headers : (u : ℕ) → u < trackSlots → trackEntry b u ≢ 0 → Inside b (trackEntry b u)
+  pub headers : (u : ℕ) → u < slots v → trackEntry b u ≢ 0 → Inside b (trackEntry b u)

@@ -1,5 +1,5 @@
-// What refuses a rewrite of one revolution of a SuperCard Pro image: the question of the revolution, the words, and the sharing test. It
-// opens the image anew, takes nobody's word, and walks once over the extents that others claim.
+// What refuses a rewrite of one revolution of a SuperCard Pro image, by the edition that it names: the question of the revolution, the words,
+// and the sharing test. It opens the image anew, takes nobody's word, and walks once over the extents that others claim.
 ghost use mathlib.Core.Path.{_≡_};
 ghost use mathlib.Core.Logic.{_≢_};
 ghost use Prim.Native.Nat.{_+_, _<_, _≤_};
@@ -12,6 +12,7 @@ ghost use Rattle.scp_sharing.specs.Claims.{fluxExtent, standAt, hit, hea
 ghost use Rattle.scp_sharing.specs.Walk.{Spans, Inside, Walkable};
 ghost use Rattle.scp_sharing.specs.RewriteFault.{badWords, wordsThenShared, rewriteFault};
 use refusals::Refusal;
+use scp_fields::Edition;
 use scp_lookup::RevolutionAnswer;
 use scp_tracks::FileOffset;
 use scp_tracks::HeaderOffset;
@@ -230,12 +231,13 @@ fn track_hit(image: &[u8], s: Stand, t: u32, k: u32, u: u32, entry: u32) -> bool
 }
 
 // The tracks of the table.
-fn tracks_hit(image: &[u8], s: Stand, t: u32, k: u32) -> bool
-    requires { ⌜ Walkable (now image) k ⌝ }
-    ensures { λ r. ⌜ r ≡ anyOf (hit s) (trackClaims (now (image .entry)) t k) ⌝ }
+fn tracks_hit(image: &[u8], edition: Edition, s: Stand, t: u32, k: u32) -> bool
+    requires { ⌜ Walkable edition (now image) k ⌝ }
+    ensures { λ r. ⌜ r ≡ anyOf (hit s) (trackClaims edition (now (image .entry)) t k) ⌝ }
 {
+    let n = scp_fields::slots(edition) as u32;
     let mut u: u32 = 0;
-    while (u as usize) < scp_fields::TRACK_SLOTS {
+    while u < n {
         if track_hit(image, s, t, k, u, scp_fields::track_entry(image, u)) {
             return true;
         }
@@ -271,10 +273,10 @@ fn strings_hit(image: &[u8], s: Stand) -> bool
 }
 
 // The footer and its strings.
-fn footer_hit(image: &[u8], s: Stand) -> bool
-    ensures { λ r. ⌜ r ≡ anyOf (hit s) (footerClaims (now (image .entry))) ⌝ }
+fn footer_hit(image: &[u8], edition: Edition, s: Stand) -> bool
+    ensures { λ r. ⌜ r ≡ anyOf (hit s) (footerClaims edition (now (image .entry))) ⌝ }
 {
-    if scp_fields::has_footer(image) {
+    if scp_fields::has_footer(image, edition) {
         let footer = Extent {
             start: scp_fields::footer_at(image),
             size: scp_fields::FOOTER_SIZE,
@@ -285,25 +287,25 @@ fn footer_hit(image: &[u8], s: Stand) -> bool
 }
 
 // All claims.
-fn claims_hit(image: &[u8], s: Stand, t: u32, k: u32) -> bool
-    requires { ⌜ Walkable (now image) k ⌝ }
-    ensures { λ r. ⌜ r ≡ anyOf (hit s) (claims (now (image .entry)) t k) ⌝ }
+fn claims_hit(image: &[u8], edition: Edition, s: Stand, t: u32, k: u32) -> bool
+    requires { ⌜ Walkable edition (now image) k ⌝ }
+    ensures { λ r. ⌜ r ≡ anyOf (hit s) (claims edition (now (image .entry)) t k) ⌝ }
 {
     let front = Extent {
         start: 0,
-        size: scp_fields::TABLE_END,
+        size: scp_fields::table_end(edition),
     };
-    hits(s, front) | (tracks_hit(image, s, t, k) | footer_hit(image, s))
+    hits(s, front) | (tracks_hit(image, edition, s, t, k) | footer_hit(image, edition, s))
 }
 
 // ---- what refuses a rewrite
 
 // Whether a byte that the rewrite of revolution k of track t stands on is claimed twice (W-5).
-fn is_shared(image: &[u8], s: Stand, t: u32, k: u32) -> bool
-    requires { ⌜ Walkable (now image) k ⌝ }
-    ensures { λ r. ⌜ r ≡ shared (now (image .entry)) s t k ⌝ }
+fn is_shared(image: &[u8], edition: Edition, s: Stand, t: u32, k: u32) -> bool
+    requires { ⌜ Walkable edition (now image) k ⌝ }
+    ensures { λ r. ⌜ r ≡ shared edition (now (image .entry)) s t k ⌝ }
 {
-    meet(s.numbers, s.flux) | claims_hit(image, s, t, k)
+    meet(s.numbers, s.flux) | claims_hit(image, edition, s, t, k)
 }
 
 // Whether n bytes of new flux are no words, or more than the revolution's.
@@ -314,27 +316,33 @@ fn bad_words(words: u32, n: usize) -> bool
 }
 
 // What refuses n bytes of new flux for revolution k of track t, which has so many words: 17, then 18.
-fn words_fault(image: &[u8], t: u32, k: u32, words: u32, n: usize) -> Refusal
-    requires { ⌜ Walkable (now image) k × Inside (now image) (trackEntry (now image) t) × (words ≡ countAt (now image) (trackEntry (now image) t) k) ⌝ }
-    ensures { λ r. ⌜ r ≡ wordsThenShared (now (image .entry)) (trackEntry (now (image .entry)) t) t k n ⌝ }
+fn words_fault(image: &[u8], edition: Edition, t: u32, k: u32, words: u32, n: usize) -> Refusal
+    requires { ⌜ Walkable edition (now image) k × Inside (now image) (trackEntry (now image) t) × (words ≡ countAt (now image) (trackEntry (now image) t) k) ⌝ }
+    ensures { λ r. ⌜ r ≡ wordsThenShared edition (now (image .entry)) (trackEntry (now (image .entry)) t) t k n ⌝ }
 {
     if bad_words(words, n) {
         return refusals::refuse(refusals::WORDS, 0);
     }
     let s = stand_of(image, scp_fields::track_entry(image, t), k);
-    if is_shared(image, s, t, k) {
+    if is_shared(image, edition, s, t, k) {
         return refusals::refuse(refusals::SHARED, 0);
     }
     refusals::pass()
 }
 
 // What refuses the rewrite: the first of refusals 1 to 11, 13, 14, 17 and 18, or number 0 (W-7).
-pub fn rewrite_fault(image: &[u8], track: u32, revolution: u32, words: &[u8]) -> Refusal
-    ensures { λ r. ⌜ r ≡ rewriteFault (now (image .entry)) track revolution (now (words .entry)) ⌝ }
+pub fn rewrite_fault(
+    image: &[u8],
+    edition: Edition,
+    track: u32,
+    revolution: u32,
+    words: &[u8],
+) -> Refusal
+    ensures { λ r. ⌜ r ≡ rewriteFault edition (now (image .entry)) track revolution (now (words .entry)) ⌝ }
 {
-    match scp_lookup::find_revolution(image, track, revolution) {
+    match scp_lookup::find_revolution(image, edition, track, revolution) {
         RevolutionAnswer::Found(data) => {
-            words_fault(image, track, revolution, data.words, words.len())
+            words_fault(image, edition, track, revolution, data.words, words.len())
         }
         RevolutionAnswer::Refused(refusal) => refusal,
     }

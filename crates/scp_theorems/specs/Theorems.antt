@@ -11,6 +11,7 @@ use lib.Ieee.Exact.{HasValue}
 use Rattle.octets.specs.Numbers.{Octets}
 use Rattle.refusals.specs.Refusals.{none}
 use Rattle.flux.specs.Answers.{wordsRefused, refuses}
+use Rattle.scp_fields.specs.declared.Edition.{Edition}
 use Rattle.scp_fields.specs.Header.{revolutions, readWrite, storedSum, trueSum}
 use Rattle.scp_tracks.specs.Tracks.{cylinderOf, headOf, durationAt}
 use Rattle.scp_open.specs.Validity.{Opens}
@@ -22,15 +23,15 @@ use Rattle.scp.specs.Answers.{numbers, revolutionAnswer, fluxPart, revolutionRe
 
 -- ---- validating
 
--- The image obeys all that validating asks: it opens, and its checksum is the true sum if it is read-only, and 0 if it is read/write (RO-5).
-pub record Valid (b : List ℕ) : Type 0 where
-  pub opens : Opens b
+-- The image obeys all that validating by an edition asks: it opens, and its checksum is the true sum if it is read-only, and 0 if it is read/write (RO-5).
+pub record Valid (v : Edition) (b : List ℕ) : Type 0 where
+  pub opens : Opens v b
   pub readOnly : readWrite b ≡ false → storedSum b ≡ trueSum b
   pub readWritten : readWrite b ≡ true → storedSum b ≡ 0
 
--- Validating accepts exactly what obeys (RO-5).
+-- By any edition, validating accepts exactly what obeys (RO-5).
 abbrev pub ValidatesExactly : Type 0
-ValidatesExactly = (b : List ℕ) → (validateFault b ≡ none) ↔ Valid b
+ValidatesExactly = (v : Edition) (b : List ℕ) → (validateFault v b ≡ none) ↔ Valid v b
 
 -- ---- tracks and the flux of their revolutions
 
@@ -42,12 +43,12 @@ pub record TrackNumber (t : ℕ) : Type 0 where
 -- The flux handed out is the words that the revolution counts (T-8).
 abbrev pub FluxIsCounted : Type 0
 FluxIsCounted =
-    (b : List ℕ) (t k duration words offset : ℕ) → revolutionAnswer b t k ≡ numbers (duration ∷ words ∷ offset ∷ [])
-    → length (fluxPart b t k) ≡ 2 * words
+    (v : Edition) (b : List ℕ) (t k duration words offset : ℕ) → revolutionAnswer v b t k ≡ numbers (duration ∷ words ∷ offset ∷ [])
+    → length (fluxPart v b t k) ≡ 2 * words
 
 -- The intervals of a revolution are never refused with 17, at no position and however many places there are (RO-11).
 abbrev pub NeverWords : Type 0
-NeverWords = (b : List ℕ) (t k places position : ℕ) → revolutionReading b t k places ≢ refuses wordsRefused position
+NeverWords = (v : Edition) (b : List ℕ) (t k places position : ℕ) → revolutionReading v b t k places ≢ refuses wordsRefused position
 
 -- ---- the longest and the shortest duration of a track
 

@@ -4,13 +4,15 @@ use mathlib.Core.Path.{_≡_, refl, sym, ap, _∙_}
 use mathlib.Core.List.{List}
 use mathlib.Core.Bool.{Bool, true, false, or-true}
 use native.Mathlib.Omega.{arith}
-use lib.ListN.{length}
 use lib.Dec.{ltb}
 use borrow.Author.Tests.{ltb-true, ltb-false, lt-ltb, le-ltb, le-leb, lt-leb}
 use Rattle.refusals.specs.Refusals.{refuseIf}
-use Rattle.scp_fields.specs.Header.{tableEnd, revolutions, dataEnd}
+use Rattle.refusals.specs.Search.{anyFrom}
+use Rattle.scp_fields.specs.declared.Edition.{Edition}
+use Rattle.scp_fields.specs.Editions.{tableEnd}
+use Rattle.scp_fields.specs.Header.{revolutions, dataEnd}
 use Rattle.refusals.proofs.Finding.{neither}
-use Rattle.scp_tracks.specs.Tracks.{offsetOf, headerSize, badMark, badTrack}
+use Rattle.scp_tracks.specs.Tracks.{offsetOf, headerSize, badMark, badTrack, fluxPast, badFlux}
 use Rattle.scp_tracks.specs.Revolutions.{recordOf, dataOf, revolutionOf, ofPresence, revolutionFault}
 use Rattle.scp_tracks.specs.declared.FileOffset.{FileOffset}
 use Rattle.scp_tracks.specs.declared.RevolutionData.{RevolutionData}
@@ -39,35 +41,40 @@ module _ (b : List ℕ) (e k : ℕ) where
 
 -- ---- a track data header at e, of track t
 
-module _ (b : List ℕ) (e t : ℕ) where
-  pub track-low : e < tableEnd → true ≡ badTrack b e t
+module _ (v : Edition) (b : List ℕ) (e t : ℕ) where
+  pub track-low : e < tableEnd v → true ≡ badTrack v b e t
   unfolding badTrack
   track-low h = sym (simp (lt-ltb _ _ h))
 
-  pub track-past : dataEnd b < e + headerSize b → true ≡ badTrack b e t
+  pub track-past : dataEnd v b < e + headerSize b → true ≡ badTrack v b e t
   unfolding badTrack
   track-past h = sym (simp (lt-ltb _ _ h, or-true))
 
-  pub track-in : tableEnd ≤ e → e + headerSize b ≤ dataEnd b → badMark b e t ≡ badTrack b e t
+  pub track-in : tableEnd v ≤ e → e + headerSize b ≤ dataEnd v b → badMark b e t ≡ badTrack v b e t
   unfolding badTrack
   track-in l h = sym (simp (le-ltb _ _ l, le-ltb _ _ h))
 
   -- one that is not bad ends with the data or before
-  pub track-inside : badTrack b e t ≡ false → e + headerSize b ≤ dataEnd b
+  pub track-inside : badTrack v b e t ≡ false → e + headerSize b ≤ dataEnd v b
   unfolding badTrack
   track-inside h =
-      let past = neither (ltb (dataEnd b) (e + headerSize b)) _ (neither (ltb e tableEnd) _ h .1) .0 in
-      ltb-false (dataEnd b) (e + headerSize b) past
+      let past = neither (ltb (dataEnd v b) (e + headerSize b)) _ (neither (ltb e (tableEnd v)) _ h .1) .0 in
+      ltb-false (dataEnd v b) (e + headerSize b) past
 
 -- ---- offsets
 
--- with `room` bytes from e to the end of the data, flux reaches past the room exactly if it ends past the data
-pub room-past : (e room d n : ℕ) {end : ℕ} → e + room ≡ end → ltb room (d + n) ≡ ltb end (e + d + n)
-room-past e room d n {end} q = by (ltb room (d + n)) refl
+-- flux that reaches d and then n bytes from e reaches past the room behind e exactly if it ends past the room's end
+pub room-past : (e room d n : ℕ) → ltb room (d + n) ≡ ltb (e + room) (e + d + n)
+room-past e room d n = by (ltb room (d + n)) refl
   where
-    by : (t : Bool) → ltb room (d + n) ≡ t → ltb room (d + n) ≡ ltb end (e + d + n)
-    by true h = let past = ltb-true room (d + n) h in h ∙ sym (lt-ltb end (e + d + n) (omega arith))
-    by false h = let within = ltb-false room (d + n) h in h ∙ sym (le-ltb end (e + d + n) (omega arith))
+    by : (t : Bool) → ltb room (d + n) ≡ t → ltb room (d + n) ≡ ltb (e + room) (e + d + n)
+    by true h = let past = ltb-true room (d + n) h in h ∙ sym (lt-ltb (e + room) (e + d + n) (omega arith))
+    by false h = let within = ltb-false room (d + n) h in h ∙ sym (le-ltb (e + room) (e + d + n) (omega arith))
+
+-- where the room ends with the data, flux past the room is bad
+pub room-ends : (v : Edition) (b : List ℕ) (e room : ℕ) → e + room ≡ dataEnd v b
+    → anyFrom (fluxPast (e + room) b e) 0 (revolutions b) ≡ badFlux v b e
+room-ends v b e room q = ap (λ (end : ℕ). anyFrom (fluxPast end b e) 0 (revolutions b)) q
 
 -- two numbers of 32 bits
 pub exact-offset : (h d : ℕ) → h < 4_294_967_296 → d < 4_294_967_296 → offsetOf h d ≡ h + d

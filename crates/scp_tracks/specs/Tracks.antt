@@ -7,7 +7,9 @@ use Rattle.refusals.specs.declared.Refusal.{Refusal}
 use Rattle.octets.specs.Numbers.{byteAt, le32At}
 use Rattle.refusals.specs.Refusals.{none, refusal, refuseIf}
 use Rattle.refusals.specs.Search.{anyFrom, firstFrom}
-use Rattle.scp_fields.specs.Header.{tableEnd, trackSlots, revolutions, startTrack, endTrack, heads, trackEntry, dataEnd}
+use Rattle.scp_fields.specs.declared.Edition.{Edition}
+use Rattle.scp_fields.specs.Editions.{slots, tableEnd}
+use Rattle.scp_fields.specs.Header.{revolutions, startTrack, endTrack, heads, trackEntry, dataEnd}
 
 -- L-14: a track's cylinder is its number / 2.
 abbrev pub cylinderOf : ℕ → ℕ
@@ -64,31 +66,32 @@ abbrev pub badMark : List ℕ → ℕ → ℕ → Bool
 badMark b e t =
     not (eqb (byteAt b e) 0x54 && (eqb (byteAt b (e + 1)) 0x52 && (eqb (byteAt b (e + 2)) 0x4B && eqb (byteAt b (e + 3)) t)))
 
--- R-10: the track data header of track t, whose entry is e, is below 688, ends above E, does not start with "TRK", or has another number.
-unfoldable pub badTrack : List ℕ → ℕ → ℕ → Bool
-badTrack b e t = ltb e tableEnd || (ltb (dataEnd b) (e + headerSize b) || badMark b e t)
+-- R-10: the track data header of track t, whose entry is e, is below the table's end, ends above E, does not start with "TRK", or has another
+-- number.
+unfoldable pub badTrack : Edition → List ℕ → ℕ → ℕ → Bool
+badTrack v b e t = ltb e (tableEnd v) || (ltb (dataEnd v b) (e + headerSize b) || badMark b e t)
 
--- R-11, L-18: the 2 x count bytes of revolution k end above E; with count 0, its flux starts above E.
-abbrev pub fluxPast : List ℕ → ℕ → ℕ → Bool
-fluxPast b e k = ltb (dataEnd b) (fluxAt b e k + 2 * countAt b e k)
+-- R-11, L-18: the 2 x count bytes of revolution k end above `end`; with count 0, its flux starts above it.
+abbrev pub fluxPast : ℕ → List ℕ → ℕ → ℕ → Bool
+fluxPast end b e k = ltb end (fluxAt b e k + 2 * countAt b e k)
 
 -- R-11: the flux of a revolution of the track data header at e ends above E.
-abbrev pub badFlux : List ℕ → ℕ → Bool
-badFlux b e = anyFrom (fluxPast b e) 0 (revolutions b)
+abbrev pub badFlux : Edition → List ℕ → ℕ → Bool
+badFlux v b e = anyFrom (fluxPast (dataEnd v b) b e) 0 (revolutions b)
 
 -- RO-4: track t, whose entry is e: 9, then 10, then 11; none where e is 0.
-unfoldable pub trackFaultAt : List ℕ → ℕ → ℕ → Refusal
-trackFaultAt b e t =
+unfoldable pub trackFaultAt : Edition → List ℕ → ℕ → ℕ → Refusal
+trackFaultAt v b e t =
     refuseIf (eqb e 0) none
     (refuseIf (badSlot b t) (refusal 9 t)
-    (refuseIf (badTrack b e t) (refusal 10 t)
-    (refuseIf (badFlux b e) (refusal 11 t)
+    (refuseIf (badTrack v b e t) (refusal 10 t)
+    (refuseIf (badFlux v b e) (refusal 11 t)
     none)))
 
 -- RO-4: track t, by its entry of the table.
-abbrev pub trackFault : List ℕ → ℕ → Refusal
-trackFault b t = trackFaultAt b (trackEntry b t) t
+abbrev pub trackFault : Edition → List ℕ → ℕ → Refusal
+trackFault v b t = trackFaultAt v b (trackEntry b t) t
 
--- RO-4: the tracks from 0 up: the first faulty one refuses.
-abbrev pub tracksFault : List ℕ → Refusal
-tracksFault b = firstFrom (trackFault b) 0 trackSlots
+-- RO-4: the tracks of the edition's table from 0 up: the first faulty one refuses.
+abbrev pub tracksFault : Edition → List ℕ → Refusal
+tracksFault v b = firstFrom (trackFault v b) 0 (slots v)

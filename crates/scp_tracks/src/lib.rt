@@ -1,4 +1,5 @@
-// Tracks of a SuperCard Pro image: offsets, the track data header and the records of its revolutions, and refusals 9 to 11 of one track.
+// Tracks of a SuperCard Pro image: offsets, the track data header and the records of its revolutions, and refusals 9 to 11 of one track, by
+// any edition.
 // Each public function is total: it takes any bytes, and past the end a byte reads 0.
 ghost use mathlib.Core.Path.{_≡_};
 ghost use Prim.Native.Nat.{_+_, _<_, _≤_};
@@ -21,6 +22,7 @@ ghost use Rattle.scp_tracks.specs.Tracks.{
 };
 ghost use Rattle.scp_tracks.specs.Revolutions.{recordOf, dataOf, revolutionOf, ofPresence, revolutionFault};
 use refusals::Refusal;
+use scp_fields::Edition;
 
 // ---- offsets
 
@@ -165,23 +167,23 @@ fn bad_mark(image: &[u8], e: usize, t: u32) -> bool
 }
 
 // Whether the track data header at e is misplaced, without its mark or of another number.
-fn bad_track(image: &[u8], e: usize, t: u32) -> bool
+fn bad_track(image: &[u8], edition: Edition, e: usize, t: u32) -> bool
     requires { ⌜ e < 4_294_967_296 ⌝ }
-    ensures { λ r. ⌜ r ≡ badTrack (now (image .entry)) e t ⌝ }
+    ensures { λ r. ⌜ r ≡ badTrack edition (now (image .entry)) e t ⌝ }
 {
-    if e < scp_fields::TABLE_END {
+    if e < scp_fields::table_end(edition) {
         return true;
     }
-    if scp_fields::data_end(image) < e + header_size(image) {
+    if scp_fields::data_end(image, edition) < e + header_size(image) {
         return true;
     }
     bad_mark(image, e, t)
 }
 
-// Whether the flux of revolution k of the track data header at e ends past the data; `room` is how many bytes there are from e to their end.
+// Whether the flux of revolution k of the track data header at e ends more than `room` bytes behind e.
 fn flux_past(image: &[u8], e: u32, k: u32, room: u64) -> bool
-    requires { ⌜ (revolutionAt e k + 12 ≤ length (now image)) × (e + room ≡ dataEnd (now image)) ⌝ }
-    ensures { λ r. ⌜ r ≡ fluxPast (now (image .entry)) e k ⌝ }
+    requires { ⌜ revolutionAt e k + 12 ≤ length (now image) ⌝ }
+    ensures { λ r. ⌜ r ≡ fluxPast (e + room) (now (image .entry)) e k ⌝ }
 {
     let at = e as usize + record_offset(k);
     let words = inner32(image, at + 4);
@@ -189,13 +191,14 @@ fn flux_past(image: &[u8], e: u32, k: u32, room: u64) -> bool
     room < (distance as u64) + 2 * (words as u64)
 }
 
-// Whether the flux of a revolution of the track data header at e ends past the data. Two revolutions are tested at a time.
-fn bad_flux(image: &[u8], e: u32) -> bool
-    requires { ⌜ e + headerSize (now image) ≤ dataEnd (now image) ⌝ }
-    ensures { λ r. ⌜ r ≡ badFlux (now (image .entry)) e ⌝ }
+// Whether the flux of a revolution of the track data header at e ends past the data, by the room from e to their end. Two revolutions are
+// tested at a time.
+fn bad_flux(image: &[u8], edition: Edition, e: u32) -> bool
+    requires { ⌜ e + headerSize (now image) ≤ dataEnd edition (now image) ⌝ }
+    ensures { λ r. ⌜ r ≡ badFlux edition (now (image .entry)) e ⌝ }
 {
     let n = scp_fields::revolutions(image) as u32;
-    let room = (scp_fields::data_end(image) - e as usize) as u64;
+    let room = (scp_fields::data_end(image, edition) - e as usize) as u64;
     let mut k: u32 = 0;
     while k + 1 < n {
         if flux_past(image, e, k, room) | flux_past(image, e, k + 1, room) {
@@ -210,8 +213,8 @@ fn bad_flux(image: &[u8], e: u32) -> bool
 }
 
 // What refuses track t, by its entry of the table: 9, then 10, then 11; nothing where the entry is 0.
-pub fn track_fault(image: &[u8], entry: u32, t: u32) -> Refusal
-    ensures { λ r. ⌜ r ≡ trackFaultAt (now (image .entry)) entry t ⌝ }
+pub fn track_fault(image: &[u8], edition: Edition, entry: u32, t: u32) -> Refusal
+    ensures { λ r. ⌜ r ≡ trackFaultAt edition (now (image .entry)) entry t ⌝ }
 {
     if entry == 0 {
         return refusals::pass();
@@ -219,10 +222,10 @@ pub fn track_fault(image: &[u8], entry: u32, t: u32) -> Refusal
     if bad_slot(image, t) {
         return refusals::refuse(refusals::SLOT, t as u64);
     }
-    if bad_track(image, entry as usize, t) {
+    if bad_track(image, edition, entry as usize, t) {
         return refusals::refuse(refusals::TRACK, t as u64);
     }
-    if bad_flux(image, entry) {
+    if bad_flux(image, edition, entry) {
         return refusals::refuse(refusals::FLUX, t as u64);
     }
     refusals::pass()

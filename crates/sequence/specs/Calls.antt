@@ -1,23 +1,25 @@
--- Calls and answers as a lent list of numbers holds them: a call is a row of 6 numbers, an answer a row of 16.
+-- Calls and answers as a lent list of numbers holds them: a call is a row of 7 numbers, an answer a row of 16.
 use Prim.Native.Nat.{ℕ, zero, suc, _+_, _*_, _/_, _%_}
 use mathlib.Core.List.{List, [], _∷_, _++_}
 use mathlib.Core.Bool.{cond}
 use lib.ListN.{length, drop, getD}
 use lib.Dec.{eqb, leb}
+use Rattle.scp_fields.specs.declared.Edition.{Edition}
+use Rattle.scp_fields.specs.Editions.{editionOf}
 use Rattle.scp.specs.Answers.{Answer}
 use Rattle.scp_book.specs.Book.{Call, ask, rewrite}
 use Rattle.scp_values.specs.Values.{part}
 use Rattle.scp_rows.specs.Rows.{questionOf, rowOf}
 
--- ---- a row of 6 numbers: kind, track, revolution, duration, and start and length of its words
+-- ---- a row of 7 numbers: kind, track, revolution, duration, start and length of its words, edition
 
 -- S-13: how many numbers a call has.
 abbrev pub callSize : ℕ
-callSize = 6
+callSize = 7
 
--- S-14: the call of a kind: 8 a rewrite, or a question.
-unfoldable pub callOf : ℕ → ℕ → ℕ → ℕ → List ℕ → Call
-callOf kind t k d ws = cond (eqb kind 8) (rewrite t k d ws) (ask (questionOf kind t k))
+-- S-14, V-5: the call of a kind, by the edition v: 8 a rewrite, or a question.
+unfoldable pub callOf : Edition → ℕ → ℕ → ℕ → ℕ → List ℕ → Call
+callOf v kind t k d ws = cond (eqb kind 8) (rewrite v t k d ws) (ask v (questionOf kind t k))
 
 -- S-15: a track or revolution above 4,294,967,295 counts as that.
 abbrev pub capped : ℕ → ℕ
@@ -27,10 +29,10 @@ capped n = cond (leb n 4_294_967_295) n 4_294_967_295
 abbrev pub field : List ℕ → ℕ → ℕ → ℕ
 field calls i j = getD calls (callSize * i + j) 0
 
--- S-13, S-15: the call of row i: a duration counts modulo 2^32, and a part that runs past `words` is cut.
+-- S-13, S-15, V-1: the call of row i: a duration counts modulo 2^32, a part that runs past `words` is cut, and 14 names the edition 1.4.
 unfoldable pub callAt : List ℕ → List ℕ → ℕ → Call
 callAt calls words i =
-    callOf (field calls i 0) (capped (field calls i 1)) (capped (field calls i 2)) (field calls i 3 % 4_294_967_296)
+    callOf (editionOf (field calls i 6)) (field calls i 0) (capped (field calls i 1)) (capped (field calls i 2)) (field calls i 3 % 4_294_967_296)
     (part words (field calls i 4) (field calls i 5))
 
 -- S-13: the calls of n rows from row i on.

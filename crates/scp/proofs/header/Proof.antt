@@ -16,15 +16,15 @@ returns : tie.Need-returns
 unfolding headerAnswer
 returns c =
     let at-open = c .before .before .before in
-    unless-refused _ _ (opened-fault _ (at-open .«open» .ensures)) (c .if1 .taken)
+    unless-refused _ _ (opened-fault _ _ (at-open .«open» .ensures)) (c .if1 .taken)
 
 returns-2 : tie.Need-returns-2
 unfolding headerAnswer headerOf
 returns-2 c =
     let at-else = c .before in
     let at-open = at-else .before .before .before in
-    let opens = sym (opened-number _ (at-open .«open» .ensures)) ∙ at-else .if1 .left in
-    unless-passes _ _ opens (ap (λ (h : Header). numbers (headerNumbers h)) (opened-header _ (at-open .«open» .ensures) opens))
+    let opens = sym (opened-number _ _ (at-open .«open» .ensures)) ∙ at-else .if1 .left in
+    unless-passes _ _ opens (ap (λ (h : Header). numbers (headerNumbers h)) (opened-header _ _ (at-open .«open» .ensures) opens))
 
 pub header-spec : {M : Type 1} → statement M
 header-spec = tie.close (tie.spec open-requires returns returns-2)

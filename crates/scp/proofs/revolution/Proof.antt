@@ -10,7 +10,7 @@ find-revolution-requires : tie.Need-find-revolution-requires
 find-revolution-requires c κs = search needs
 
 returns : tie.Need-returns
-returns c = ap ofRevolution (c .find-revolution .ensures) ∙ answer-is _ _ _
+returns c = ap ofRevolution (c .find-revolution .ensures) ∙ answer-is _ _ _ _
 
 pub revolution-spec : {M : Type 1} → statement M
 revolution-spec = tie.close (tie.spec find-revolution-requires returns)

@@ -29,9 +29,9 @@ returns c =
     let at-find = at-found .before .before in
     let found = sym (at-found .found .given .1) ∙ at-find .find-revolution .ensures in
     let start = at-find .before .before in
-    let held = found-data _ _ _ found in
+    let held = found-data _ _ _ _ found in
     let duration = ap (λ (d : RevolutionData). d .duration) (held .same) in
-    unless-passes _ _ (revolution-passes _ _ _ (held .present))
+    unless-passes _ _ (revolution-passes _ _ _ _ (held .present))
     (ap ofSpeedOnly (c .speed-of .ensures) ∙ ap (λ (d : ℕ). ofSpeedOnly (speedOf d)) duration ∙ speed-is _)
 
 returns-2 : tie.Need-returns-2
@@ -41,7 +41,7 @@ returns-2 c =
     let at-find = at-found .before .before in
     let found = sym (at-found .found2 .given .1) ∙ at-find .find-revolution .ensures in
     let start = at-find .before .before in
-    let none = found-refused _ _ _ found in
+    let none = found-refused _ _ _ _ found in
     unless-refused _ _ (none .refuses) (none .number)
 
 pub speed-spec : {M : Type 1} → statement M

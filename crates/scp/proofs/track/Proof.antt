@@ -20,14 +20,14 @@ cylinder-requires c κs = search needs
 head-requires : tie.Need-head-requires
 head-requires c κs = search needs
 
-cast-t9 : tie.Need-cast-t9
-cast-t9 c = search needs
+cast-t10 : tie.Need-cast-t10
+cast-t10 c = search needs
 
 revolutions-requires : tie.Need-revolutions-requires
 revolutions-requires c κs = search needs
 
-cast-t12 : tie.Need-cast-t12
-cast-t12 c = search needs
+cast-t13 : tie.Need-cast-t13
+cast-t13 c = search needs
 
 enum-known-found-2 : tie.Need-enum-known-found-2
 enum-known-found-2 c = search needs
@@ -39,8 +39,8 @@ returns c =
     let at-cylinder = at-head .before in
     let at-found = at-cylinder .before .before in
     let at-find = at-found .before .before in
-    let there = found-at _ _ (sym (at-found .found .given .1) ∙ at-find .find-track .ensures) in
-    unless-passes _ _ (track-passes _ _ (there .present))
+    let there = found-at _ _ _ (sym (at-found .found .given .1) ∙ at-find .find-track .ensures) in
+    unless-passes _ _ (track-passes _ _ _ (there .present))
     (track-same (at-cylinder .cylinder .ensures) (at-head .head .ensures) (there .same) (c .revolutions .ensures .0))
 
 returns-2 : tie.Need-returns-2
@@ -48,7 +48,7 @@ unfolding trackAnswer
 returns-2 c =
     let at-found = c .before in
     let at-find = at-found .before .before in
-    let none = not-found _ _ (sym (at-found .found2 .given .1) ∙ at-find .find-track .ensures) in
+    let none = not-found _ _ _ (sym (at-found .found2 .given .1) ∙ at-find .find-track .ensures) in
     unless-refused _ _ (none .refuses) (none .number)
 
 pub track-spec : {M : Type 1} → statement M
@@ -59,9 +59,9 @@ track-spec =
     enum-known-found
     cylinder-requires
     head-requires
-    cast-t9
+    cast-t10
     revolutions-requires
-    cast-t12
+    cast-t13
     enum-known-found-2
     returns
     returns-2)

@@ -34,9 +34,9 @@ returns c =
     let at-range = at-speeds .before .before in
     let at-found = at-range .before .before in
     let at-find = at-found .before .before in
-    let there = found-at _ _ (sym (at-found .found .given .1) ∙ at-find .find-track .ensures) in
+    let there = found-at _ _ _ (sym (at-found .found .given .1) ∙ at-find .find-track .ensures) in
     let b = at-find .before .before .args .image .now in
-    unless-passes _ _ (track-passes _ _ (there .present))
+    unless-passes _ _ (track-passes _ _ _ (there .present))
     (ap ofSpeedRange (sym (at-speeds .speeds .given .1) ∙ at-range .track-speeds .ensures ∙ ap (speedsOf b) (there .same)))
 
 returns-2 : tie.Need-returns-2
@@ -45,9 +45,9 @@ returns-2 c =
     let at-range = c .before .before in
     let at-found = at-range .before .before in
     let at-find = at-found .before .before in
-    let there = found-at _ _ (sym (at-found .found .given .1) ∙ at-find .find-track .ensures) in
+    let there = found-at _ _ _ (sym (at-found .found .given .1) ∙ at-find .find-track .ensures) in
     let b = at-find .before .before .args .image .now in
-    unless-passes _ _ (track-passes _ _ (there .present))
+    unless-passes _ _ (track-passes _ _ _ (there .present))
     (ap ofSpeedRange (sym (c .enum-told .given .1) ∙ at-range .track-speeds .ensures ∙ ap (speedsOf b) (there .same)))
 
 returns-3 : tie.Need-returns-3
@@ -55,7 +55,7 @@ unfolding trackSpeedAnswer
 returns-3 c =
     let at-found = c .before in
     let at-find = at-found .before .before in
-    let none = not-found _ _ (sym (at-found .found2 .given .1) ∙ at-find .find-track .ensures) in
+    let none = not-found _ _ _ (sym (at-found .found2 .given .1) ∙ at-find .find-track .ensures) in
     unless-refused _ _ (none .refuses) (none .number)
 
 pub track-speed-spec : {M : Type 1} → statement M

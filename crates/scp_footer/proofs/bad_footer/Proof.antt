@@ -47,6 +47,9 @@ add-byte-8 c = search needs
 byte-requires-5 : tie.Need-byte-requires-5
 byte-requires-5 c κs = search needs
 
+footer-least-requires : tie.Need-footer-least-requires
+footer-least-requires c κs = search needs
+
 returns : tie.Need-returns
 returns c = cc
 
@@ -69,4 +72,4 @@ bad-footer-spec =
     byte-requires-4
     add-byte-8
     byte-requires-5
-    returns)
+    footer-least-requires returns)

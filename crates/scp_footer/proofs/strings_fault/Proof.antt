@@ -10,10 +10,10 @@ use Rattle.scp_footer.proofs.strings_fault.Statement.{statement}
 use Rattle.scp_footer.proofs.strings_fault.Tie as tie
 
 abbrev Inv-loop : tie.InvT-loop
-Inv-loop image j₀ j = (j ≤ stringSlots) × (firstFrom (stringFault image) j (stringSlots - j) ≡ stringsFault image)
+Inv-loop image edition j₀ j = (j ≤ stringSlots) × (firstFrom (stringFault edition image) j (stringSlots - j) ≡ stringsFault edition image)
 
 abbrev μ-loop : tie.MeasureT-loop
-μ-loop image j₀ j = stringSlots - j
+μ-loop image edition j₀ j = stringSlots - j
 
 loop-holds : tie.Need-loop-holds Inv-loop μ-loop
 loop-holds c = search needs
@@ -25,12 +25,14 @@ string-fault-at-requires : tie.Need-string-fault-at-requires Inv-loop μ-loop
 string-fault-at-requires c κs = search needs
 
 -- what is found at string j is the definition's finding, at the offset that was read
-found : (c : tie.After-string-fault-at Inv-loop μ-loop)
-    → c .string-fault-at .result ≡ stringFault (c .before .before .before .before .before .args .image .now) (c .before .before .before .loop .j)
+found : (c : tie.After-string-fault-at Inv-loop μ-loop) → let at-loop = c .before .before .before in
+    let a = at-loop .before .before .args in
+    c .string-fault-at .result ≡ stringFault (a .edition) (a .image .now) (at-loop .loop .j)
 found c =
     let at-loop = c .before .before .before in
+    let a = at-loop .before .before .args in
     c .string-fault-at .ensures
-    ∙ ap (λ (o : ℕ). stringFaultAt (at-loop .before .before .args .image .now) o (at-loop .loop .j)) (c .before .string-entry .ensures)
+    ∙ ap (λ (o : ℕ). stringFaultAt (a .edition) (a .image .now) o (at-loop .loop .j)) (c .before .string-entry .ensures)
 
 returns : tie.Need-returns Inv-loop μ-loop
 returns c = found-here _ (c .before .before .before .before .before .loop .inv .1) (search needs) (found (c .before .before)) (c .if1 .taken)

@@ -8,8 +8,11 @@ start-track-requires c κs = search needs
 end-track-requires : tie.Need-end-track-requires
 end-track-requires c κs = search needs
 
+last-track-requires : tie.Need-last-track-requires
+last-track-requires c κs = search needs
+
 returns : tie.Need-returns
 returns c = cc
 
 pub bad-span-spec : {M : Type 1} → statement M
-bad-span-spec = tie.close (tie.spec start-track-requires end-track-requires returns)
+bad-span-spec = tie.close (tie.spec start-track-requires end-track-requires last-track-requires returns)

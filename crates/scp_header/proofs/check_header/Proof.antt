@@ -1,25 +1,34 @@
 -- Each return meets the tests before it, in the definition's order.
-use mathlib.Core.Path.{sym, _∙_}
+use mathlib.Core.Path.{_≡_, sym, _∙_}
+use mathlib.Core.Bool.{false}
 use borrow.Author.Needs.{needs}
+use Rattle.scp_header.specs.HeaderTests.{badSize}
 use Rattle.scp_header.specs.HeaderFault.{headFault}
 use Rattle.refusals.proofs.Chain.{refuse-here, refuse-next}
 use Rattle.scp_header.proofs.Sizes.{small, large, sized}
 use Rattle.scp_header.proofs.check_header.Statement.{statement}
 use Rattle.scp_header.proofs.check_header.Tie as tie
 
+table-end-requires : tie.Need-table-end-requires
+table-end-requires c κs = search needs
+
 refuse-requires : tie.Need-refuse-requires
 refuse-requires c κs = search needs
 
 returns : tie.Need-returns
 unfolding headFault
-returns c = refuse-here _ _ _ (small _ (search needs)) (cc)
+returns c = refuse-here _ _ _ (small _ _ (search needs)) (cc)
 
 refuse-requires-2 : tie.Need-refuse-requires-2
 refuse-requires-2 c κs = search needs
 
 returns-2 : tie.Need-returns-2
 unfolding headFault
-returns-2 c = refuse-here _ _ _ (large _ (search needs)) (cc)
+returns-2 c = refuse-here _ _ _ (large _ _ (search needs)) (cc)
+
+-- past both tests of the length, the size is good
+fits : (c : tie.Else2) → let a = c .before .before .before .before .args in badSize (a .edition) (a .image .now) ≡ false
+fits c = sized _ _ (search needs) (c .if2 .left)
 
 bad-sign-requires : tie.Need-bad-sign-requires
 bad-sign-requires c κs = search needs
@@ -33,7 +42,7 @@ returns-3 c =
     let here = c .before in
     let at-sign = here .before in
     let past-large = at-sign .before in
-    refuse-next _ _ _ (sized _ (past-large .before .if1 .left) (past-large .if2 .left))
+    refuse-next _ _ _ (fits past-large)
     (refuse-here _ _ _ (sym (at-sign .bad-sign .ensures) ∙ here .if3 .taken) (c .refuse3 .ensures))
 
 bad-width-requires : tie.Need-bad-width-requires
@@ -50,7 +59,7 @@ returns-4 c =
     let past-sign = at-width .before in
     let at-sign = past-sign .before in
     let past-large = at-sign .before in
-    refuse-next _ _ _ (sized _ (past-large .before .if1 .left) (past-large .if2 .left))
+    refuse-next _ _ _ (fits past-large)
     (refuse-next _ _ _ (sym (at-sign .bad-sign .ensures) ∙ past-sign .if3 .left)
     (refuse-here _ _ _ (sym (at-width .bad-width .ensures) ∙ here .if4 .taken) (c .refuse4 .ensures)))
 
@@ -70,7 +79,7 @@ returns-5 c =
     let past-sign = at-width .before in
     let at-sign = past-sign .before in
     let past-large = at-sign .before in
-    refuse-next _ _ _ (sized _ (past-large .before .if1 .left) (past-large .if2 .left))
+    refuse-next _ _ _ (fits past-large)
     (refuse-next _ _ _ (sym (at-sign .bad-sign .ensures) ∙ past-sign .if3 .left)
     (refuse-next _ _ _ (sym (at-width .bad-width .ensures) ∙ past-width .if4 .left)
     (refuse-here _ _ _ (sym (at-revolutions .bad-revolutions .ensures) ∙ here .if5 .taken) (c .refuse5 .ensures))))
@@ -93,7 +102,7 @@ returns-6 c =
     let past-sign = at-width .before in
     let at-sign = past-sign .before in
     let past-large = at-sign .before in
-    refuse-next _ _ _ (sized _ (past-large .before .if1 .left) (past-large .if2 .left))
+    refuse-next _ _ _ (fits past-large)
     (refuse-next _ _ _ (sym (at-sign .bad-sign .ensures) ∙ past-sign .if3 .left)
     (refuse-next _ _ _ (sym (at-width .bad-width .ensures) ∙ past-width .if4 .left)
     (refuse-next _ _ _ (sym (at-revolutions .bad-revolutions .ensures) ∙ past-revolutions .if5 .left)
@@ -119,7 +128,7 @@ returns-7 c =
     let past-sign = at-width .before in
     let at-sign = past-sign .before in
     let past-large = at-sign .before in
-    refuse-next _ _ _ (sized _ (past-large .before .if1 .left) (past-large .if2 .left))
+    refuse-next _ _ _ (fits past-large)
     (refuse-next _ _ _ (sym (at-sign .bad-sign .ensures) ∙ past-sign .if3 .left)
     (refuse-next _ _ _ (sym (at-width .bad-width .ensures) ∙ past-width .if4 .left)
     (refuse-next _ _ _ (sym (at-revolutions .bad-revolutions .ensures) ∙ past-revolutions .if5 .left)
@@ -143,7 +152,7 @@ returns-8 c =
     let past-sign = at-width .before in
     let at-sign = past-sign .before in
     let past-large = at-sign .before in
-    refuse-next _ _ _ (sized _ (past-large .before .if1 .left) (past-large .if2 .left))
+    refuse-next _ _ _ (fits past-large)
     (refuse-next _ _ _ (sym (at-sign .bad-sign .ensures) ∙ past-sign .if3 .left)
     (refuse-next _ _ _ (sym (at-width .bad-width .ensures) ∙ past-width .if4 .left)
     (refuse-next _ _ _ (sym (at-revolutions .bad-revolutions .ensures) ∙ past-revolutions .if5 .left)
@@ -155,7 +164,7 @@ pub check-header-spec : {M : Type 1} → statement M
 check-header-spec =
     tie.close
     (tie.spec
-    refuse-requires
+    table-end-requires refuse-requires
     returns
     refuse-requires-2
     returns-2

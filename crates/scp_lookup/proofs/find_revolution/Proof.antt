@@ -30,9 +30,9 @@ returns c =
     let at-read = c .before .before .before in
     let at-found = at-read .before .before in
     let at-find = at-found .before .before in
-    let there = found-at _ _ (sym (at-found .found .given .1) ∙ at-find .find-track .ensures) in
+    let there = found-at _ _ _ (sym (at-found .found .given .1) ∙ at-find .find-track .ensures) in
     let number = ap ofPresence (sym (c .before .enum-told .given .1)) ∙ at-read .revolution-at .ensures .1 in
-    absent-refused _ _ _ (there .present) number (c .refuse .ensures)
+    absent-refused _ _ _ _ (there .present) number (c .refuse .ensures)
 
 enum-known-found-2 : tie.Need-enum-known-found-2
 enum-known-found-2 c = search needs
@@ -42,17 +42,17 @@ returns-2 c =
     let at-read = c .before .before .before in
     let at-found = at-read .before .before in
     let at-find = at-found .before .before in
-    let there = found-at _ _ (sym (at-found .found .given .1) ∙ at-find .find-track .ensures) in
+    let there = found-at _ _ _ (sym (at-found .found .given .1) ∙ at-find .find-track .ensures) in
     let held = present-is _ _ _ (sym (c .before .revolution .given .1) ∙ at-read .revolution-at .ensures .0) in
     let start = at-find .before .before in
-    revolution-found _ _ _ (record { track = there .present; below = held .below })
+    revolution-found _ _ _ _ (record { track = there .present; below = held .below })
     (held .same ∙ ap (λ (e : ℕ). dataOf (start .args .image .now) e (start .args .k)) (there .same))
 
 returns-3 : tie.Need-returns-3
 returns-3 c =
     let at-found = c .before in
     let at-find = at-found .before .before in
-    no-track _ _ _ (not-found _ _ (sym (at-found .found2 .given .1) ∙ at-find .find-track .ensures))
+    no-track _ _ _ _ (not-found _ _ _ (sym (at-found .found2 .given .1) ∙ at-find .find-track .ensures))
 
 pub find-revolution-spec : {M : Type 1} → statement M
 find-revolution-spec =

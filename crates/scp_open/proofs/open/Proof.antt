@@ -16,8 +16,8 @@ refused-image-requires c κs = search needs
 returns : tie.Need-returns
 returns c =
     let at-head = c .before .before .before in
-    let f = open-first _ (at-head .check-header .ensures) (c .before .if1 .taken) in
-    c .refused-image .ensures ∙ opened-refused _ f (c .before .if1 .taken)
+    let f = open-first _ _ (at-head .check-header .ensures) (c .before .if1 .taken) in
+    c .refused-image .ensures ∙ opened-refused _ _ f (c .before .if1 .taken)
 
 read-table-requires : tie.Need-read-table-requires
 read-table-requires c κs = search needs
@@ -33,8 +33,8 @@ returns-2 c =
     let at-tracks = c .before .before .before in
     let at-if1 = at-tracks .before .before .before in
     let at-head = at-if1 .before .before in
-    let f = open-next _ (at-head .check-header .ensures) (at-if1 .if1 .left) (at-tracks .tracks-fault .ensures) in
-    c .refused-image2 .ensures ∙ opened-refused _ f (c .before .if2 .taken)
+    let f = open-next _ _ (at-head .check-header .ensures) (at-if1 .if1 .left) (at-tracks .tracks-fault .ensures) in
+    c .refused-image2 .ensures ∙ opened-refused _ _ f (c .before .if2 .taken)
 
 read-header-requires : tie.Need-read-header-requires
 read-header-requires c κs = search needs
@@ -45,8 +45,8 @@ returns-3 c =
     let at-table = at-tracks .before .before in
     let at-if1 = at-table .before in
     let at-head = at-if1 .before .before in
-    let f = open-next _ (at-head .check-header .ensures) (at-if1 .if1 .left) (at-tracks .tracks-fault .ensures) in
-    let o = opened-passes _ f (c .before .if2 .left) in
+    let f = open-next _ _ (at-head .check-header .ensures) (at-if1 .if1 .left) (at-tracks .tracks-fault .ensures) in
+    let o = opened-passes _ _ f (c .before .if2 .left) in
     cc
 
 pub open-spec : {M : Type 1} → statement M

@@ -1,7 +1,5 @@
--- The flux reaches past the room from the header's first byte exactly if it ends past the data.
-use mathlib.Core.Path.{_∙_}
+-- The flux reaches past the room from the header's first byte exactly if it ends past the room's end.
 use Prim.Native.Nat.{_*_}
-use Rattle.scp_fields.specs.Header.{dataEnd}
 use Rattle.scp_tracks.specs.Tracks.{countAt, distanceAt}
 use Rattle.scp_tracks.proofs.RevolutionLaws.{room-past}
 use borrow.Author.Needs.{needs}
@@ -42,7 +40,7 @@ returns : tie.Need-returns
 returns c =
     let args = c .before .before .before .before .args in
     let b = args .image .now in
-    let past = room-past (args .e) (args .room) (distanceAt b (args .e) (args .k)) (2 * countAt b (args .e) (args .k)) {end = dataEnd b} (search needs) in
+    let past = room-past (args .e) (args .room) (distanceAt b (args .e) (args .k)) (2 * countAt b (args .e) (args .k)) in
     cc
 
 pub flux-past-spec : {M : Type 1} → statement M

@@ -45,7 +45,7 @@ returns-3 c =
 
 bad-flux-requires : tie.Need-bad-flux-requires
 bad-flux-requires c κs =
-    track-inside _ _ _ (sym (c .before .bad-track .ensures) ∙ c .if3 .left)
+    track-inside _ _ _ _ (sym (c .before .bad-track .ensures) ∙ c .if3 .left)
 
 refuse-requires-3 : tie.Need-refuse-requires-3
 refuse-requires-3 c κs = search needs
