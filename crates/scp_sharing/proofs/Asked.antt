@@ -12,7 +12,9 @@ use borrow.Author.Tests.{lt-leb, leb-false}
 use Rattle.refusals.specs.declared.Refusal.{Refusal}
 use Rattle.refusals.specs.Refusals.{none, refusal, passes, refuseIf, firstOf}
 use Rattle.refusals.proofs.Finding.{not-refused}
-use Rattle.scp_fields.specs.Header.{trackSlots, revolutions, trackEntry}
+use Rattle.scp_fields.specs.declared.Edition.{Edition}
+use Rattle.scp_fields.specs.Editions.{slots}
+use Rattle.scp_fields.specs.Header.{revolutions, trackEntry}
 use Rattle.scp_open.specs.Opening.{openFault}
 use Rattle.scp_open.specs.Validity.{Opens}
 use Rattle.scp_open.proofs.Opens.{opens, clears}
@@ -23,14 +25,14 @@ use Rattle.scp_sharing.specs.RewriteFault.{wordsThenShared, rewriteFault
 use Rattle.scp_sharing.specs.Sharing.{Present}
 use Rattle.scp_sharing.specs.Walk.{Inside}
 
-module _ (b : List ℕ) (t k : ℕ) (rest : Refusal) where
-  pub question-first : revolutionQuestion b t k ≢ none → revolutionThen b t k rest ≡ revolutionQuestion b t k
+module _ (v : Edition) (b : List ℕ) (t k : ℕ) (rest : Refusal) where
+  pub question-first : revolutionQuestion v b t k ≢ none → revolutionThen v b t k rest ≡ revolutionQuestion v b t k
   unfolding trackThen firstOf refuseIf
-  question-first = by (passes (openFault b)) (leb trackSlots t) (eqb (trackEntry b t) 0) (leb (revolutions b) k)
+  question-first = by (passes (openFault v b)) (leb (slots v) t) (eqb (trackEntry b t) 0) (leb (revolutions b) k)
     where
       asking : Bool → Bool → Bool → Bool → Refusal → Refusal
       asking opens high absent beyond last =
-          refuseIf (not opens) (openFault b)
+          refuseIf (not opens) (openFault v b)
           (refuseIf high (refusal 13 0) (refuseIf absent (refusal 13 0) (refuseIf beyond (refusal 14 0) last)))
 
       by : (w x y z : Bool) → asking w x y z none ≢ none → asking w x y z rest ≡ asking w x y z none
@@ -40,42 +42,42 @@ module _ (b : List ℕ) (t k : ℕ) (rest : Refusal) where
       by true false false true n = refl
       by true false false false n = absurd (n refl)
 
-  pub there-then : RevolutionThere b t k → revolutionThen b t k rest ≡ rest
+  pub there-then : RevolutionThere v b t k → revolutionThen v b t k rest ≡ rest
   unfolding refuseIf
-  there-then h = sym (then-rest b t _ (h .track)) ∙ simp (lt-leb (revolutions b) k (h .below))
+  there-then h = sym (then-rest v b t _ (h .track)) ∙ simp (lt-leb (revolutions b) k (h .below))
 
 -- the header of each track that is there ends at or below E, so inside the image
-pub headers-inside : {b : List ℕ} → Opens b → (u : ℕ) → u < trackSlots → trackEntry b u ≢ 0 → Inside b (trackEntry b u)
+pub headers-inside : {v : Edition} {b : List ℕ} → Opens v b → (u : ℕ) → u < slots v → trackEntry b u ≢ 0 → Inside b (trackEntry b u)
 headers-inside o u h n = let below = o .tracks u h n .below in omega arith
 
 -- ---- what refuses a rewrite
 
-module _ (b : List ℕ) (t k : ℕ) (ws : List ℕ) where
-  pub fault-refused : {f : Refusal} → f ≡ revolutionQuestion b t k → f .number ≢ 0 → f ≡ rewriteFault b t k ws
+module _ (v : Edition) (b : List ℕ) (t k : ℕ) (ws : List ℕ) where
+  pub fault-refused : {f : Refusal} → f ≡ revolutionQuestion v b t k → f .number ≢ 0 → f ≡ rewriteFault v b t k ws
   unfolding rewriteFault
-  fault-refused {f} e n = e ∙ sym (question-first b t k _ (λ z. n (ap (λ (x : Refusal). x .number) (e ∙ z))))
+  fault-refused {f} e n = e ∙ sym (question-first v b t k _ (λ z. n (ap (λ (x : Refusal). x .number) (e ∙ z))))
 
-  pub fault-there : RevolutionThere b t k → wordsThenShared b (trackEntry b t) t k (length ws) ≡ rewriteFault b t k ws
+  pub fault-there : RevolutionThere v b t k → wordsThenShared v b (trackEntry b t) t k (length ws) ≡ rewriteFault v b t k ws
   unfolding rewriteFault
-  fault-there h = sym (there-then b t k _ h)
+  fault-there h = sym (there-then v b t k _ h)
 
 -- ---- a revolution that can be asked for
 
 -- The image opens, and has the track and the revolution.
-pub record Asked (b : List ℕ) (t k : ℕ) : Type 0 where
-  pub opens : Opens b
-  pub present : Present b t
+pub record Asked (v : Edition) (b : List ℕ) (t k : ℕ) : Type 0 where
+  pub opens : Opens v b
+  pub present : Present v b t
   pub below : k < revolutions b
 
-module _ (b : List ℕ) (t k : ℕ) (rest : Refusal) where
-  pub asked : revolutionThen b t k rest .number ≡ 0 → Asked b t k × (rest .number ≡ 0)
+module _ (v : Edition) (b : List ℕ) (t k : ℕ) (rest : Refusal) where
+  pub asked : revolutionThen v b t k rest .number ≡ 0 → Asked v b t k × (rest .number ≡ 0)
   asked e =
-      let track = there b t _ e in
-      let last = not-refused (leb (revolutions b) k) 13 0 rest (ap (λ (x : Refusal). x .number) (then-rest b t _ track) ∙ e) in
-      (record { opens = opens b (track .opened); present = (track .slot, track .entry); below = leb-false (revolutions b) k (last .0) }, last .1)
+      let track = there v b t _ e in
+      let last = not-refused (leb (revolutions b) k) 13 0 rest (ap (λ (x : Refusal). x .number) (then-rest v b t _ track) ∙ e) in
+      (record { opens = opens v b (track .opened); present = (track .slot, track .entry); below = leb-false (revolutions b) k (last .0) }, last .1)
 
   -- what comes after then decides
-  pub asked-rest : Asked b t k → revolutionThen b t k rest ≡ rest
+  pub asked-rest : Asked v b t k → revolutionThen v b t k rest ≡ rest
   asked-rest a =
-      there-then b t k rest
-      (record { track = record { opened = clears b (a .opens); slot = a .present .0; entry = a .present .1 }; below = a .below })
+      there-then v b t k rest
+      (record { track = record { opened = clears v b (a .opens); slot = a .present .0; entry = a .present .1 }; below = a .below })

@@ -9,8 +9,10 @@ use lib.Dec.{eqb}
 use borrow.Author.Tests.{eq-eqb, ne-eqb}
 use Rattle.octets.specs.Numbers.{le16At}
 use Rattle.refusals.specs.Search.{anyFrom}
-use Rattle.scp_fields.specs.Header.{tableEnd, trackSlots, footerSize, revolutions, hasFooter}
-use Rattle.scp_fields.specs.Footer.{footerAt, stringSlots}
+use Rattle.scp_fields.specs.declared.Edition.{Edition}
+use Rattle.scp_fields.specs.Editions.{tableEnd}
+use Rattle.scp_fields.specs.Header.{footerSize, hasFooter}
+use Rattle.scp_fields.specs.Footer.{footerAt}
 use Rattle.scp_tracks.specs.Tracks.{headerSize, revolutionAt}
 use Rattle.scp_sharing.specs.Extents.{extent, between, anyOf, joined}
 use Rattle.scp_sharing.specs.Claims.{hit, fluxExtent, headerClaims, fluxClaim, fluxClaims, trackClaim, trackClaims, stringClaim, stringClaims, footerClaims, claims}
@@ -97,20 +99,21 @@ module _ (p : Extent → Bool) where
     unfolding stringClaim anyOf
     string-there o q = simp (ne-eqb o 0 q, or-false)
 
-    pub footer-none : hasFooter b ≡ false → anyOf p (footerClaims b) ≡ false
+  module _ (v : Edition) (b : List ℕ) where
+    pub footer-none : hasFooter v b ≡ false → anyOf p (footerClaims v b) ≡ false
     unfolding footerClaims anyOf
     footer-none q = simp q
 
-    pub footer-parts : hasFooter b ≡ true → anyOf p (footerClaims b) ≡ (p (extent (footerAt b) footerSize) || anyOf p (stringClaims b))
+    pub footer-parts : hasFooter v b ≡ true → anyOf p (footerClaims v b) ≡ (p (extent (footerAt b) footerSize) || anyOf p (stringClaims b))
     unfolding footerClaims anyOf
     footer-parts q = simp q
 
     -- ---- all claims
 
     pub claims-parts : (t k : ℕ)
-        → anyOf p (claims b t k) ≡ (p (extent 0 tableEnd) || (anyOf p (trackClaims b t k) || anyOf p (footerClaims b)))
+        → anyOf p (claims v b t k) ≡ (p (extent 0 (tableEnd v)) || (anyOf p (trackClaims v b t k) || anyOf p (footerClaims v b)))
     unfolding claims anyOf
-    claims-parts t k = ap (λ (z : Bool). p (extent 0 tableEnd) || z) (any-append (trackClaims b t k) (footerClaims b))
+    claims-parts t k = ap (λ (z : Bool). p (extent 0 (tableEnd v)) || z) (any-append (trackClaims v b t k) (footerClaims v b))
 
 -- ---- a track header as the walk takes it: at is where the record stands, n the header's size
 

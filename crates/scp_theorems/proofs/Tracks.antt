@@ -16,7 +16,9 @@ use Rattle.refusals.specs.Search.{firstFrom}
 use Rattle.flux.specs.Coding.{wordsOf, badFluxSize, fluxLimit}
 use Rattle.flux.specs.Reading.{intervals, openTime}
 use Rattle.flux.specs.Answers.{placesRefused, wordsRefused, Filling, refuses, fills, inPlaces, reading}
-use Rattle.scp_fields.specs.Header.{trackSlots, trackEntry}
+use Rattle.scp_fields.specs.declared.Edition.{Edition}
+use Rattle.scp_fields.specs.Editions.{slots}
+use Rattle.scp_fields.specs.Header.{trackEntry}
 use Rattle.scp_fields.specs.Footer.{stringSlots}
 use Rattle.scp_footer.specs.Footer.{stringFaultAt, stringFault, footerFault}
 use Rattle.scp_header.specs.HeaderFault.{headFault}
@@ -37,35 +39,35 @@ track-number t = record { whole = omega arith; side = omega arith }
 
 -- ---- the flux of a revolution is as long as its count says
 
-module _ (b : List ℕ) (t k : ℕ) where
+module _ (v : Edition) (b : List ℕ) (t k : ℕ) where
   -- an answer with numbers is not refused, and its second number is the count
-  counted : (duration words offset : ℕ) → revolutionAnswer b t k ≡ numbers (duration ∷ words ∷ offset ∷ [])
-      → (revolutionQuestion b t k .number ≡ 0) × (countAt b (trackEntry b t) k ≡ words)
+  counted : (duration words offset : ℕ) → revolutionAnswer v b t k ≡ numbers (duration ∷ words ∷ offset ∷ [])
+      → (revolutionQuestion v b t k .number ≡ 0) × (countAt b (trackEntry b t) k ≡ words)
   unfolding revolutionAnswer
-  counted duration words offset e = go (passes (revolutionQuestion b t k)) refl e
+  counted duration words offset e = go (passes (revolutionQuestion v b t k)) refl e
     where
-      go : (x : Bool) → passes (revolutionQuestion b t k) ≡ x
+      go : (x : Bool) → passes (revolutionQuestion v b t k) ≡ x
           → cond x (numbers (durationAt b (trackEntry b t) k ∷ countAt b (trackEntry b t) k ∷ fluxAt b (trackEntry b t) k ∷ []))
-          (refused (revolutionQuestion b t k .number) (revolutionQuestion b t k .position)) ≡ numbers (duration ∷ words ∷ offset ∷ [])
-          → (revolutionQuestion b t k .number ≡ 0) × (countAt b (trackEntry b t) k ≡ words)
-      go true q h = (eqb-true (revolutionQuestion b t k .number) 0 q, cc)
+          (refused (revolutionQuestion v b t k .number) (revolutionQuestion v b t k .position)) ≡ numbers (duration ∷ words ∷ offset ∷ [])
+          → (revolutionQuestion v b t k .number ≡ 0) × (countAt b (trackEntry b t) k ≡ words)
+      go true q h = (eqb-true (revolutionQuestion v b t k .number) 0 q, cc)
       go false q h = let z : _≡_ {A = ℕ} 0 1 = cc in absurd (omega arith)
 
-  flux-length : {d : RevolutionData} → FoundData b t k d → length (fluxOf b d) ≡ 2 * d .words
+  flux-length : {d : RevolutionData} → FoundData v b t k d → length (fluxOf b d) ≡ 2 * d .words
   flux-length {d} h =
-      let within = flux-within b t k h in
+      let within = flux-within v b t k h in
       let rest = length-drop (d .offset .0) b in
       length-take-le (2 * d .words) (drop (d .offset .0) b) (omega arith)
 
-  part-length : revolutionQuestion b t k .number ≡ 0 → length (fluxPart b t k) ≡ 2 * countAt b (trackEntry b t) k
+  part-length : revolutionQuestion v b t k .number ≡ 0 → length (fluxPart v b t k) ≡ 2 * countAt b (trackEntry b t) k
   part-length z =
-      let found = revolution-found b t k (revolution-there b t k z) refl in
-      ap (λ (s : List ℕ). length s) (ap (partOf b) (sym found)) ∙ flux-length (found-data b t k found)
+      let found = revolution-found v b t k (revolution-there v b t k z) refl in
+      ap (λ (s : List ℕ). length s) (ap (partOf b) (sym found)) ∙ flux-length (found-data v b t k found)
 
 pub flux-is-counted : FluxIsCounted
-flux-is-counted b t k duration words offset e =
-    let held = counted b t k duration words offset e in
-    part-length b t k (held .0) ∙ ap (λ (n : ℕ). 2 * n) (held .1)
+flux-is-counted v b t k duration words offset e =
+    let held = counted v b t k duration words offset e in
+    part-length v b t k (held .0) ∙ ap (λ (n : ℕ). 2 * n) (held .1)
 
 -- ---- what refuses a revolution has a number up to 14
 
@@ -84,16 +86,16 @@ module _ (m : ℕ) where
   most-from f i zero h = omega arith
   most-from f i (suc n) h = most-first (f i) (firstFrom f (i + 1) n) (h i) (most-from f (i + 1) n h)
 
-module _ (b : List ℕ) where
-  string-most : (j : ℕ) → stringFault b j .number ≤ 8
+module _ (v : Edition) (b : List ℕ) where
+  string-most : (j : ℕ) → stringFault v b j .number ≤ 8
   unfolding stringFaultAt
   string-most j = most-if 8 _ _ _ (omega arith) (most-if 8 _ _ _ (omega arith) (omega arith))
 
-  footer-most : footerFault b .number ≤ 8
+  footer-most : footerFault v b .number ≤ 8
   unfolding footerFault
-  footer-most = most-if 8 _ _ _ (omega arith) (most-if 8 _ _ _ (omega arith) (most-from 8 (stringFault b) 0 stringSlots string-most))
+  footer-most = most-if 8 _ _ _ (omega arith) (most-if 8 _ _ _ (omega arith) (most-from 8 (stringFault v b) 0 stringSlots string-most))
 
-  head-most : headFault b .number ≤ 8
+  head-most : headFault v b .number ≤ 8
   unfolding headFault
   head-most =
       most-if 8 _ _ _ (omega arith)
@@ -104,7 +106,7 @@ module _ (b : List ℕ) where
       (most-if 8 _ _ _ (omega arith)
       footer-most)))))
 
-  track-most : (t : ℕ) → trackFault b t .number ≤ 11
+  track-most : (t : ℕ) → trackFault v b t .number ≤ 11
   unfolding trackFaultAt
   track-most t =
       most-if 11 _ _ _ (omega arith)
@@ -113,17 +115,17 @@ module _ (b : List ℕ) where
       (most-if 11 _ _ _ (omega arith)
       (omega arith))))
 
-  open-most : openFault b .number ≤ 11
+  open-most : openFault v b .number ≤ 11
   unfolding openFault
   open-most =
       let head = head-most in
-      most-first 11 (headFault b) (tracksFault b) (omega arith) (most-from 11 (trackFault b) 0 trackSlots track-most)
+      most-first 11 (headFault v b) (tracksFault v b) (omega arith) (most-from 11 (trackFault v b) 0 (slots v) track-most)
 
-  revolution-most : (t k : ℕ) → revolutionQuestion b t k .number ≤ 14
+  revolution-most : (t k : ℕ) → revolutionQuestion v b t k .number ≤ 14
   unfolding trackThen
   revolution-most t k =
       let first = open-most in
-      most-first 14 (openFault b) _ (omega arith)
+      most-first 14 (openFault v b) _ (omega arith)
       (most-if 14 _ _ _ (omega arith)
       (most-if 14 _ _ _ (omega arith)
       (most-if 14 _ _ _ (omega arith)
@@ -149,23 +151,23 @@ passed x f p q e = rw q at e
 good-flux : (n : ℕ) → 2 * n ≤ fluxLimit → badFluxSize (2 * n) ≡ false
 good-flux n h = simp (ne-eqb (2 * n % 2) 1 (λ e. omega arith), le-ltb fluxLimit (2 * n) h)
 
-module _ (b : List ℕ) (t k places p : ℕ) where
-  read-whole : {d : RevolutionData} → FoundData b t k d → reading (fluxOf b d) places ≢ refuses wordsRefused p
+module _ (v : Edition) (b : List ℕ) (t k places p : ℕ) where
+  read-whole : {d : RevolutionData} → FoundData v b t k d → reading (fluxOf b d) places ≢ refuses wordsRefused p
   read-whole {d} h e =
-      let size = flux-length b t k h in
-      let within = flux-within b t k h in
-      let most = opens b (h .present .track .opened) .most in
+      let size = flux-length v b t k h in
+      let within = flux-within v b t k h in
+      let most = opens v b (h .present .track .opened) .most in
       let good : badFluxSize (length (fluxOf b d)) ≡ false = ap badFluxSize size ∙ good-flux (d .words) (omega arith) in
       let times = intervals 0 (wordsOf (fluxOf b d)) in
       places-only places (length times ∷ openTime 0 (wordsOf (fluxOf b d)) ∷ []) times p (passed _ _ p good e)
 
-  never : (r : RevolutionAnswer) → r ≡ foundRevolution b t k → intervalsOf b places r ≢ refuses wordsRefused p
-  never (revolution-answer.Found d) h = read-whole (found-data b t k h)
+  never : (r : RevolutionAnswer) → r ≡ foundRevolution v b t k → intervalsOf b places r ≢ refuses wordsRefused p
+  never (revolution-answer.Found d) h = read-whole (found-data v b t k h)
   never (revolution-answer.Refused f) h = λ e.
-      let most = revolution-most b t k in
+      let most = revolution-most v b t k in
       let same : f .number ≡ 17 = ap number-of e in
-      let number = ap (λ (x : Refusal). x .number) (found-refused b t k h .refuses) in
+      let number = ap (λ (x : Refusal). x .number) (found-refused v b t k h .refuses) in
       omega arith
 
 pub never-words : NeverWords
-never-words b t k places p = never b t k places p (foundRevolution b t k) refl
+never-words v b t k places p = never v b t k places p (foundRevolution v b t k) refl

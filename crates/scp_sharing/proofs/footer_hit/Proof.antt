@@ -26,10 +26,10 @@ returns c =
     let at-flag = past .before in
     let s = at-flag .before .before .args .s in
     or-same (at-hits .hits .ensures ∙ ap (hit s) (extent-is (at-footer .footer-at .ensures) refl)) (c .strings-hit .ensures)
-    ∙ sym (footer-parts (hit s) _ (sym (at-flag .has-footer .ensures) ∙ past .if1 .taken))
+    ∙ sym (footer-parts (hit s) _ _ (sym (at-flag .has-footer .ensures) ∙ past .if1 .taken))
 
 returns-2 : tie.Need-returns-2
-returns-2 c = sym (footer-none _ _ (sym (c .before .has-footer .ensures) ∙ c .if1 .left))
+returns-2 c = sym (footer-none _ _ _ (sym (c .before .has-footer .ensures) ∙ c .if1 .left))
 
 pub footer-hit-spec : {M : Type 1} → statement M
 footer-hit-spec =

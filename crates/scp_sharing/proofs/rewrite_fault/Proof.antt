@@ -17,8 +17,8 @@ enum-known-data c = search needs
 words-fault-requires : tie.Need-words-fault-requires
 words-fault-requires c κs =
     let at-data = c .before in
-    let found = found-data _ _ _ (sym (at-data .«data» .given .1) ∙ at-data .before .before .find-revolution .ensures) in
-    let h = headers-inside (opens _ (found .present .track .opened)) in
+    let found = found-data _ _ _ _ (sym (at-data .«data» .given .1) ∙ at-data .before .before .find-revolution .ensures) in
+    let h = headers-inside (opens _ _ (found .present .track .opened)) in
     let track = found .present .track in (
       record { below = found .present .below; headers = h },
       h _ (track .slot) (track .entry),
@@ -31,14 +31,14 @@ enum-known-refusal c = search needs
 returns : tie.Need-returns
 returns c =
     let at-data = c .before .before in
-    let found = found-data _ _ _ (sym (at-data .«data» .given .1) ∙ at-data .before .before .find-revolution .ensures) in
-    c .words-fault .ensures ∙ fault-there _ _ _ _ (found .present)
+    let found = found-data _ _ _ _ (sym (at-data .«data» .given .1) ∙ at-data .before .before .find-revolution .ensures) in
+    c .words-fault .ensures ∙ fault-there _ _ _ _ _ (found .present)
 
 returns-2 : tie.Need-returns-2
 returns-2 c =
     let at-refusal = c .before in
-    let refused = found-refused _ _ _ (sym (at-refusal .refusal .given .1) ∙ at-refusal .before .before .find-revolution .ensures) in
-    fault-refused _ _ _ _ (refused .refuses) (refused .number)
+    let refused = found-refused _ _ _ _ (sym (at-refusal .refusal .given .1) ∙ at-refusal .before .before .find-revolution .ensures) in
+    fault-refused _ _ _ _ _ (refused .refuses) (refused .number)
 
 pub rewrite-fault-spec : {M : Type 1} → statement M
 rewrite-fault-spec =

@@ -40,13 +40,13 @@ is-shared-requires c κs = search needs
 
 -- the stand is that of the revolution
 free : (c : tie.After-is-shared) → let a = c .before .before .before .before .before .before .args in
-    shared (a .image .now) (standAt (a .image .now) (trackEntry (a .image .now) (a .t)) (a .k)) (a .t) (a .k) ≡ c .is-shared .result
+    shared (a .edition) (a .image .now) (standAt (a .image .now) (trackEntry (a .image .now) (a .t)) (a .k)) (a .t) (a .k) ≡ c .is-shared .result
 free c =
     let at-stand = c .before in
     let at-entry = at-stand .before in
     let a = at-entry .before .before .before .before .args in
     let stand = at-stand .stand-of .ensures ∙ ap (λ (e : ℕ). standAt (a .image .now) e (a .k)) (at-entry .track-entry .ensures) in
-    sym (c .is-shared .ensures ∙ ap (λ (s : Stand). shared (a .image .now) s (a .t) (a .k)) stand)
+    sym (c .is-shared .ensures ∙ ap (λ (s : Stand). shared (a .edition) (a .image .now) s (a .t) (a .k)) stand)
 
 refuse-requires-2 : tie.Need-refuse-requires-2
 refuse-requires-2 c κs = search needs
