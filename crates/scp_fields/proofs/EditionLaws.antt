@@ -5,7 +5,7 @@ use mathlib.Core.List.{List}
 use native.Mathlib.Omega.{arith}
 use borrow.Author.Tests.{lt-ltb, le-ltb}
 use Rattle.scp_fields.specs.Editions.{slots}
-use Rattle.scp_fields.specs.Header.{trackEntry, heldEntry}
+use Rattle.scp_fields.specs.Header.{flags, footerBit, trackEntry, heldEntry}
 use Rattle.scp_fields.specs.declared.Edition.{Edition}
 use Rattle.scp_fields.specs.declared.Edition.the-variants.{V1_4, V1_6}
 
@@ -19,6 +19,11 @@ pub slots-most : (v : Edition) → slots v ≤ 168
 unfolding slots
 slots-most V1_4 = omega arith
 slots-most V1_6 = omega arith
+
+-- images with the same FLAGS have a footer or not alike
+pub bit-same : (v : Edition) (b q : List ℕ) → flags q ≡ flags b → footerBit v q ≡ footerBit v b
+unfolding footerBit
+bit-same v b q e = cc
 
 -- the entry that an opened image holds is the table's, or 0 behind it
 module _ (v : Edition) (b : List ℕ) (t : ℕ) where

@@ -13,6 +13,7 @@ use lib.Seq.{sets, length-sets, getD-take, getD-drop, ext-getD, take-length}
 use Rattle.octets.specs.Numbers.{byteAt, Octets, le32At, leBytes}
 use Rattle.octets.specs.Sums.{byteSum}
 use Rattle.octets.proofs.Numbers.{Apart, byte-apart, byte-inside, drop-sets, le-same, le-apart, le-length, le-read-same, le-octets, sets-octets}
+use Rattle.scp_fields.specs.declared.Edition.{Edition}
 use Rattle.scp_fields.specs.Header.{checksumAt, readWrite, storedSum, trueSum, trackEntry}
 use Rattle.scp_tracks.specs.Tracks.{revolutionAt, durationAt, countAt, fluxAt}
 use Rattle.scp_sharing.specs.Extents.{extent, In}
@@ -134,7 +135,7 @@ module _ (b p : List ℕ) where
 pub octets-kept : (b : List ℕ) (t k d : ℕ) (ws : List ℕ) → Octets b → Octets ws → Octets (rewritten b t k d ws)
 octets-kept b t k d ws h g = summed-octets b _ (patched-octets b (trackEntry b t) k d ws h g)
 
-module _ (b : List ℕ) (t k d : ℕ) (ws : List ℕ) (a : Accepted b t k ws) where
+module _ (v : Edition) (b : List ℕ) (t k d : ℕ) (ws : List ℕ) (a : Accepted v b t k ws) where
   abbrev e : ℕ
   e = trackEntry b t
 
@@ -144,7 +145,7 @@ module _ (b : List ℕ) (t k d : ℕ) (ws : List ℕ) (a : Accepted b t k ws) wh
   abbrev q : List ℕ
   q = rewritten b t k d ws
 
-  -- it stands behind the table and inside the image
+  -- it stands behind the checksum and inside the image
   pub lies : Patchable b e k (length ws)
   lies =
       let s = a .asks in

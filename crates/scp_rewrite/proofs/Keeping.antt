@@ -13,8 +13,11 @@ use lib.Dec.{eqb}
 use borrow.Author.Tests.{eq-eqb}
 use Rattle.octets.specs.Numbers.{byteAt, le16At}
 use Rattle.octets.proofs.Numbers.{Agree, le-same}
-use Rattle.scp_fields.specs.Header.{checksumAt, trackSlots, footerSize, revolutions, readWrite, hasFooter, trackEntry, dataEnd}
+use Rattle.scp_fields.specs.declared.Edition.{Edition}
+use Rattle.scp_fields.specs.Editions.{slots}
+use Rattle.scp_fields.specs.Header.{checksumAt, footerSize, revolutions, readWrite, hasFooter, trackEntry, dataEnd}
 use Rattle.scp_fields.specs.Footer.{footerAt, stringSlots, stringEntry}
+use Rattle.scp_fields.proofs.EditionLaws.{bit-same}
 use Rattle.scp_tracks.specs.Tracks.{revolutionAt, durationAt, countAt, fluxAt}
 use Rattle.scp_open.specs.Validity.{StringHolds, FooterHolds, TrackHolds, Opens}
 use Rattle.scp_sharing.specs.Extents.{extent, In}
@@ -24,15 +27,15 @@ use Rattle.scp_sharing.proofs.Accepted.{Accepted, unset}
 use Rattle.scp_rewrite.proofs.Frame.{part-same}
 use Rattle.scp_rewrite.specs.OneRewrite.{reading, put, Rewrites}
 
-module _ (b q : List ℕ) (t k d : ℕ) (ws : List ℕ) (a : Accepted b t k ws) (f : Rewrites b q t k d ws) where
-  o : Opens b
+module _ (v : Edition) (b q : List ℕ) (t k d : ℕ) (ws : List ℕ) (a : Accepted v b t k ws) (f : Rewrites b q t k d ws) where
+  o : Opens v b
   o = a .asks .opens
 
-  track : (u : ℕ) → Present b u → TrackHolds b (trackEntry b u) u
+  track : (u : ℕ) → Present v b u → TrackHolds v b (trackEntry b u) u
   track u p = o .tracks u (p .0) (p .1)
 
   -- a byte that others claim, off the checksum, stays
-  kept : (i : ℕ) → (In i (extent checksumAt 4) → ⊥) → Claimed b t k i → byteAt q i ≡ byteAt b i
+  kept : (i : ℕ) → (In i (extent checksumAt 4) → ⊥) → Claimed v b t k i → byteAt q i ≡ byteAt b i
   kept i off c = let u = unset a i c in f .rest i (u .0) (u .1) off
 
   -- ---- the header and the table
@@ -43,21 +46,21 @@ module _ (b q : List ℕ) (t k d : ℕ) (ws : List ℕ) (a : Accepted b t k ws) 
   pub same-readWrite : readWrite q ≡ readWrite b
   same-readWrite = cc (low 8 (omega arith))
 
-  same-hasFooter : hasFooter q ≡ hasFooter b
-  same-hasFooter = cc (low 8 (omega arith))
+  same-hasFooter : hasFooter v q ≡ hasFooter v b
+  same-hasFooter = cc (bit-same v b q (low 8 (omega arith)))
 
-  same-end : dataEnd q ≡ dataEnd b
-  same-end = cc (low 8 (omega arith), f .size)
+  same-end : dataEnd v q ≡ dataEnd v b
+  same-end = cc (bit-same v b q (low 8 (omega arith)), f .size)
 
   pub same-revolutions : revolutions q ≡ revolutions b
   same-revolutions = low 5 (omega arith)
 
-  pub same-entry : (u : ℕ) → u < trackSlots → trackEntry q u ≡ trackEntry b u
+  pub same-entry : (u : ℕ) → u < slots v → trackEntry q u ≡ trackEntry b u
   same-entry u l = le-same 4 q b (0x10 + 4 * u) (λ i h m. kept i (omega arith) (front (omega arith)))
 
   -- ---- the footer and its strings
 
-  module _ (has : hasFooter b ≡ true) where
+  module _ (has : hasFooter v b ≡ true) where
     footer-byte : Agree q b (footerAt b) footerSize
     footer-byte i h m = let r = o .footer has .room in kept i (omega arith) (footer has (h, m))
 
@@ -65,7 +68,7 @@ module _ (b q : List ℕ) (t k d : ℕ) (ws : List ℕ) (a : Accepted b t k ws) 
     same-string j l =
         rw (f .size) (le-same 4 q b (footerAt b + 4 * j) (λ i h m. footer-byte i (omega arith) (omega arith)))
 
-    string-kept : (j : ℕ) → j < stringSlots → stringEntry b j ≢ 0 → StringHolds q (stringEntry b j)
+    string-kept : (j : ℕ) → j < stringSlots → stringEntry b j ≢ 0 → StringHolds v q (stringEntry b j)
     string-kept j l n =
         let s = stringEntry b j in
         let h = o .footer has .strings j l n in
@@ -79,7 +82,7 @@ module _ (b q : List ℕ) (t k d : ℕ) (ws : List ℕ) (a : Accepted b t k ws) 
           ending = rw size (same (s + 2 + le16At b s) (omega arith) (omega arith) ∙ h .ending);
         }
 
-    footer-kept : FooterHolds q
+    footer-kept : FooterHolds v q
     footer-kept =
         let h = o .footer has in
         record {
@@ -100,24 +103,24 @@ module _ (b q : List ℕ) (t k d : ℕ) (ws : List ℕ) (a : Accepted b t k ws) 
   -- ---- the tracks
 
   -- a byte of a track header, if it is not one of the revolution's own 8
-  header-byte : (u i : ℕ) → Present b u → InHeader b u i → (u ≡ t → InNumbers b u k i → ⊥) → byteAt q i ≡ byteAt b i
+  header-byte : (u i : ℕ) → Present v b u → InHeader b u i → (u ≡ t → InNumbers b u k i → ⊥) → byteAt q i ≡ byteAt b i
   header-byte u i p h n =
       let r = track u p .above in
       kept i (omega arith)
       (elim (ℕ-discrete u t) [
-        | yes e ↦ ownHeader (subst (λ (v : ℕ). InHeader b v i) e h) (subst (λ (v : ℕ). InNumbers b v k i → ⊥) e (n e))
+        | yes e ↦ ownHeader (subst (λ (x : ℕ). InHeader b x i) e h) (subst (λ (x : ℕ). InNumbers b x k i → ⊥) e (n e))
         | no e ↦ otherHeader u p e h
       ])
 
-  name-kept : (u : ℕ) → Present b u → Agree q b (trackEntry b u) 4
+  name-kept : (u : ℕ) → Present v b u → Agree q b (trackEntry b u) 4
   name-kept u p i h m = header-byte u i p (omega arith) (λ e g. omega arith)
 
-  same-offset : (u j : ℕ) → Present b u → j < revolutions b → fluxAt q (trackEntry b u) j ≡ fluxAt b (trackEntry b u) j
+  same-offset : (u j : ℕ) → Present v b u → j < revolutions b → fluxAt q (trackEntry b u) j ≡ fluxAt b (trackEntry b u) j
   same-offset u j p l =
       ap (λ (n : ℕ). trackEntry b u + n)
       (le-same 4 q b (revolutionAt (trackEntry b u) j + 8) (λ i h m. header-byte u i p (omega arith) (λ e g. omega arith)))
 
-  module _ (u j : ℕ) (p : Present b u) (l : j < revolutions b) (other : (u ≡ t) × (j ≡ k) → ⊥) where
+  module _ (u j : ℕ) (p : Present v b u) (l : j < revolutions b) (other : (u ≡ t) × (j ≡ k) → ⊥) where
     numbers-kept : Agree q b (revolutionAt (trackEntry b u) j) 8
     numbers-kept i h m = header-byte u i p (omega arith) (λ e g. let n : j ≢ k = λ y. other (e, y) in omega arith)
 
@@ -127,7 +130,7 @@ module _ (b q : List ℕ) (t k d : ℕ) (ws : List ℕ) (a : Accepted b t k ws) 
     same-count : countAt q (trackEntry b u) j ≡ countAt b (trackEntry b u) j
     same-count = le-same 4 q b (revolutionAt (trackEntry b u) j + 4) (λ i h m. numbers-kept i (omega arith) (omega arith))
 
-  count-falls : (u j : ℕ) → Present b u → j < revolutions b → countAt q (trackEntry b u) j ≤ countAt b (trackEntry b u) j
+  count-falls : (u j : ℕ) → Present v b u → j < revolutions b → countAt q (trackEntry b u) j ≤ countAt b (trackEntry b u) j
   count-falls u j p l =
       elim (ℕ-discrete u t) [
         | yes e ↦ elim (ℕ-discrete j k) [
@@ -137,7 +140,7 @@ module _ (b q : List ℕ) (t k d : ℕ) (ws : List ℕ) (a : Accepted b t k ws) 
         | no e ↦ le-of-eq (same-count u j p l (λ y. e (y .0)))
       ]
 
-  track-kept : (u : ℕ) → Present b u → TrackHolds q (trackEntry b u) u
+  track-kept : (u : ℕ) → Present v b u → TrackHolds v q (trackEntry b u) u
   track-kept u p =
       let h = track u p in
       let e = trackEntry b u in
@@ -166,7 +169,7 @@ module _ (b q : List ℕ) (t k d : ℕ) (ws : List ℕ) (a : Accepted b t k ws) 
 
   -- ---- the image opens
 
-  pub opens-kept : Opens q
+  pub opens-kept : Opens v q
   opens-kept =
       record {
         least = rw (f .size) (o .least);
@@ -184,7 +187,7 @@ module _ (b q : List ℕ) (t k d : ℕ) (ws : List ℕ) (a : Accepted b t k ws) 
 
   -- ---- each revolution reads as put or as before
 
-  reading-other : (u j : ℕ) → Present b u → j < revolutions b → ((u ≡ t) × (j ≡ k) → ⊥) → reading q u j ≡ reading b u j
+  pub reading-other : (u j : ℕ) → Present v b u → j < revolutions b → ((u ≡ t) × (j ≡ k) → ⊥) → reading q u j ≡ reading b u j
   unfolding reading
   reading-other u j p l other =
       let e = trackEntry b u in
@@ -195,14 +198,14 @@ module _ (b q : List ℕ) (t k d : ℕ) (ws : List ℕ) (a : Accepted b t k ws) 
       (λ i m. kept (fluxAt b e j + i) (omega arith) (otherFlux u j p l other (omega arith))) in
       cc (same-entry u (p .0), same-duration u j p l other, same-count u j p l other, same-offset u j p l, flux)
 
-  reading-own : reading q t k ≡ put (reading b t k) d ws
+  pub reading-own : reading q t k ≡ put (reading b t k) d ws
   unfolding reading
   reading-own =
       let p = a .asks .present in
       let two : 2 * (length ws / 2) ≡ length ws = let v = a .even in omega arith in
       cc (same-entry t (p .0), f .duration, f .count, same-offset t k p (a .asks .below), two, f .words)
 
-  pub reading-kept : (u j : ℕ) → Present b u → j < revolutions b
+  pub reading-kept : (u j : ℕ) → Present v b u → j < revolutions b
       → reading q u j ≡ cond (eqb t u && eqb k j) (put (reading b u j) d ws) (reading b u j)
   reading-kept u j p l =
       elim (ℕ-discrete u t) [

@@ -13,7 +13,7 @@ same-length c = search needs
 returns : tie.Need-returns
 returns c =
     let f = c .before .before .rewrite-fault .ensures in
-    (answers-refused _ _ _ _ f (c .if1 .taken), leaves-all _ _ _ _ f _ (c .if1 .taken))
+    (answers-refused _ _ _ _ _ f (c .if1 .taken), leaves-all _ _ _ _ _ f _ (c .if1 .taken))
 
 track-entry-requires : tie.Need-track-entry-requires
 track-entry-requires c κs = search needs
@@ -22,7 +22,7 @@ patch-summed-requires : tie.Need-patch-summed-requires
 patch-summed-requires c κs =
     let at-entry = c .before in
     let past = at-entry .before .before in
-    patchable _ _ _ _ (past .before .before .rewrite-fault .ensures) (at-entry .track-entry .ensures) (past .if1 .left)
+    patchable _ _ _ _ _ (past .before .before .rewrite-fault .ensures) (at-entry .track-entry .ensures) (past .if1 .left)
 
 same-length-2 : tie.Need-same-length-2
 same-length-2 c = search needs
@@ -33,8 +33,8 @@ returns-2 c =
     let at-entry = at-patch .before .before in
     let past = at-entry .before .before in
     let f = past .before .before .rewrite-fault .ensures in (
-      answers-done _ _ _ _ f (past .if1 .left),
-      leaves-rewritten _ _ _ _ f (at-entry .track-entry .ensures) (past .if1 .left) _ (at-patch .patch-summed .ensures),
+      answers-done _ _ _ _ _ f (past .if1 .left),
+      leaves-rewritten _ _ _ _ _ f (at-entry .track-entry .ensures) (past .if1 .left) _ (at-patch .patch-summed .ensures),
     )
 
 pub rewrite-spec : {M : Type 1} → statement M
