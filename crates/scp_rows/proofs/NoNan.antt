@@ -7,6 +7,7 @@ use lib.IntN.{ℤ, pos}
 use lib.Ieee.{Float, nan, inf, fin, Format, binary64, prec, emax, low, up, down, unlike, odd, units, round, div, ofInt, isNan}
 use mathlib.Core.List.{List}
 use Rattle.refusals.specs.Refusals.{passes}
+use Rattle.scp_fields.specs.declared.Edition.{Edition}
 use Rattle.scp_fields.specs.Header.{trackEntry}
 use Rattle.scp_tracks.specs.Tracks.{durationAt}
 use Rattle.scp_speed.specs.Speeds.{rpmOf, longest, shortest, speedsOf}
@@ -71,18 +72,18 @@ pick-real : (x : Bool) (a c : Answer) → Real a → Real c → Real (cond x a c
 pick-real true a c h k = h
 pick-real false a c h k = k
 
-pub speed-real : (b : List ℕ) (t k : ℕ) → Real (speedAnswer b t k)
+pub speed-real : (v : Edition) (b : List ℕ) (t k : ℕ) → Real (speedAnswer v b t k)
 unfolding speedAnswer
-speed-real b t k =
-    pick-real (passes (revolutionQuestion b t k)) _ _ (pick-real (eqb (durationAt b (trackEntry b t) k) 0) none _ tt (rpm-real _, tt)) tt
+speed-real v b t k =
+    pick-real (passes (revolutionQuestion v b t k)) _ _ (pick-real (eqb (durationAt b (trackEntry b t) k) 0) none _ tt (rpm-real _, tt)) tt
 
 range-real : (x : Bool) (most least : ℕ)
     → Real (ofSpeedRange (cond x range.None (range.Speeds (record { slowest = rpmOf most; fastest = rpmOf least }))))
 range-real true most least = tt
 range-real false most least = (rpm-real most, (rpm-real least, tt))
 
-pub track-speed-real : (b : List ℕ) (t : ℕ) → Real (trackSpeedAnswer b t)
+pub track-speed-real : (v : Edition) (b : List ℕ) (t : ℕ) → Real (trackSpeedAnswer v b t)
 unfolding trackSpeedAnswer speedsOf
-track-speed-real b t =
-    pick-real (passes (trackQuestion b t)) _ _
+track-speed-real v b t =
+    pick-real (passes (trackQuestion v b t)) _ _
     (range-real (eqb (longest b (trackEntry b t)) 0) (longest b (trackEntry b t)) (shortest b (trackEntry b t))) tt

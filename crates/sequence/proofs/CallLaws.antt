@@ -1,6 +1,6 @@
 -- Rows of calls: how many there are, what each is, and that demand 3 speaks of each.
 use Prim.Native.Nat.{ℕ, zero, suc, _+_, _*_, _%_, _<_, _≤_}
-use mathlib.Core.Path.{_≡_, refl, sym, ap, ap₂, _∙_}
+use mathlib.Core.Path.{_≡_, refl, sym, ap, _∙_}
 use mathlib.Core.List.{List, [], _∷_, _++_, map}
 use mathlib.Core.Bool.{Bool, true, false, cond}
 use native.Mathlib.Omega.{arith}
@@ -12,6 +12,8 @@ use Rattle.octets.specs.Numbers.{Octets, unsigned64}
 use Rattle.octets.proofs.Numbers.{drop-octets, take-octets}
 use Rattle.octets.specs.Sums.{byteSum}
 use lib.Ieee.{binary64, toBits}
+use Rattle.scp_fields.specs.declared.Edition.{Edition}
+use Rattle.scp_fields.specs.Editions.{editionOf}
 use Rattle.scp.specs.declared.FooterData.{FooterData}
 use Rattle.scp.specs.Answers.{Answer, refused, none, numbers, footer, speeds, bytes, ofFooterData}
 use Rattle.scp_book.specs.Book as book
@@ -20,7 +22,7 @@ use Rattle.scp_book.specs.Claim.{Fits, AllFit}
 use Rattle.scp_values.specs.Values.{part}
 use Rattle.scp_rows.specs.Rows.{questionOf, rowOf}
 use Rattle.scp_rows.proofs.RowLaws.{row-length}
-use Rattle.sequence.specs.Calls.{callOf, capped, field, callAt, callsFrom, callsOf, rowsOf}
+use Rattle.sequence.specs.Calls.{callSize, callOf, capped, field, callAt, callsFrom, callsOf, rowsOf}
 
 -- ---- how many numbers and rows there are
 
@@ -49,9 +51,9 @@ fit-by : (x : Bool) (c d : Call) → Fits c → Fits d → Fits (cond x c d)
 fit-by true c d h k = h
 fit-by false c d h k = k
 
-fits-of : (kind t k d : ℕ) (ws : List ℕ) → d < 4_294_967_296 → Octets ws → Fits (callOf kind t k d ws)
+fits-of : (v : Edition) (kind t k d : ℕ) (ws : List ℕ) → d < 4_294_967_296 → Octets ws → Fits (callOf v kind t k d ws)
 unfolding callOf
-fits-of kind t k d ws h o = fit-by (eqb kind 8) (book.rewrite t k d ws) _ (h, o) tt
+fits-of v kind t k d ws h o = fit-by (eqb kind 8) (book.rewrite v t k d ws) _ (h, o) tt
 
 call-fits : (calls words : List ℕ) (i : ℕ) → Octets words → Fits (callAt calls words i)
 unfolding callAt
@@ -59,7 +61,7 @@ call-fits calls words i o =
     let start = field calls i 4 in
     let n = field calls i 5 in
     let d : field calls i 3 % 4_294_967_296 < 4_294_967_296 = omega arith in
-    fits-of _ _ _ _ _ d (take-octets n (drop start words) (drop-octets start words o))
+    fits-of _ _ _ _ _ _ d (take-octets n (drop start words) (drop-octets start words o))
 
 calls-fit-from : (calls words : List ℕ) (i n : ℕ) → Octets words → AllFit (callsFrom calls words i n)
 unfolding callsFrom
@@ -71,25 +73,36 @@ calls-fit calls words o = calls-fit-from calls words 0 _ o
 
 -- ---- what a row's kind says of its call
 
-kind-is : (calls : List ℕ) (i : ℕ) → field calls i 0 ≡ getD calls (6 * i) 0
-kind-is calls i = let e : 6 * i + 0 ≡ 6 * i = omega arith in ap (λ (j : ℕ). getD calls j 0) e
+kind-is : (calls : List ℕ) (i : ℕ) → field calls i 0 ≡ getD calls (callSize * i) 0
+kind-is calls i = let e : callSize * i + 0 ≡ callSize * i = omega arith in ap (λ (j : ℕ). getD calls j 0) e
 
-pub call-rewrite : (calls words : List ℕ) (i : ℕ) → getD calls (6 * i) 0 ≡ 8
-    → callAt calls words i
-    ≡ book.rewrite (capped (field calls i 1)) (capped (field calls i 2)) (field calls i 3 % 4_294_967_296)
-    (part words (field calls i 4) (field calls i 5))
-unfolding callAt callOf
-call-rewrite calls words i h = simp (eq-eqb (field calls i 0) 8 (kind-is calls i ∙ h))
+module _ (calls words : List ℕ) (i : ℕ) where
+  -- the edition that a row names
+  abbrev pub editionAt : Edition
+  editionAt = editionOf (field calls i 6)
 
-pub call-question : (calls words : List ℕ) (i : ℕ) → (getD calls (6 * i) 0 ≡ 8 → ⊥)
-    → callAt calls words i ≡ book.ask (questionOf (getD calls (6 * i) 0) (capped (field calls i 1)) (capped (field calls i 2)))
-unfolding callAt callOf
-call-question calls words i h =
-    let e = kind-is calls i in
-    let q : callAt calls words i ≡ book.ask (questionOf (field calls i 0) (capped (field calls i 1)) (capped (field calls i 2))) =
-    simp (ne-eqb (field calls i 0) 8 (λ z. h (sym e ∙ z))) in
-    q ∙ ap (λ (x : ℕ). book.ask (questionOf x (capped (field calls i 1)) (capped (field calls i 2)))) e
+  pub call-rewrite : getD calls (callSize * i) 0 ≡ 8
+      → callAt calls words i
+      ≡ book.rewrite editionAt (capped (field calls i 1)) (capped (field calls i 2)) (field calls i 3 % 4_294_967_296)
+      (part words (field calls i 4) (field calls i 5))
+  unfolding callAt callOf
+  call-rewrite h = simp (eq-eqb (field calls i 0) 8 (kind-is calls i ∙ h))
 
--- a rewrite whose arguments are equal
-pub rewrite-same : (d : ℕ) {t t′ k k′ : ℕ} {ws ws′ : List ℕ} → t ≡ t′ → k ≡ k′ → ws ≡ ws′ → book.rewrite t k d ws ≡ book.rewrite t′ k′ d ws′
-rewrite-same d et ek ew = cc
+  pub call-question : (getD calls (callSize * i) 0 ≡ 8 → ⊥)
+      → callAt calls words i
+      ≡ book.ask editionAt (questionOf (getD calls (callSize * i) 0) (capped (field calls i 1)) (capped (field calls i 2)))
+  unfolding callAt callOf
+  call-question h =
+      let e = kind-is calls i in
+      let q : callAt calls words i ≡ book.ask editionAt (questionOf (field calls i 0) (capped (field calls i 1)) (capped (field calls i 2))) =
+      simp (ne-eqb (field calls i 0) 8 (λ z. h (sym e ∙ z))) in
+      q ∙ ap (λ (x : ℕ). book.ask editionAt (questionOf x (capped (field calls i 1)) (capped (field calls i 2)))) e
+
+-- calls whose arguments are equal
+pub rewrite-same : (d : ℕ) {v v′ : Edition} {t t′ k k′ : ℕ} {ws ws′ : List ℕ} → v ≡ v′ → t ≡ t′ → k ≡ k′ → ws ≡ ws′
+    → book.rewrite v t k d ws ≡ book.rewrite v′ t′ k′ d ws′
+rewrite-same d ev et ek ew = cc
+
+pub question-same : (kind : ℕ) {v v′ : Edition} {t t′ k k′ : ℕ} → v ≡ v′ → t ≡ t′ → k ≡ k′
+    → book.ask v (questionOf kind t k) ≡ book.ask v′ (questionOf kind t′ k′)
+question-same kind ev et ek = cc

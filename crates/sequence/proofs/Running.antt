@@ -10,7 +10,7 @@ use Rattle.scp.specs.Answers.{Answer}
 use Rattle.scp_book.specs.Book.{Call, answer, after, finalBytes, answers}
 use Rattle.scp_rows.specs.Rows.{rowOf}
 use Rattle.scp_rows.proofs.RowLaws.{row-length}
-use Rattle.sequence.specs.Calls.{callAt, callsFrom, callsOf, rowsOf}
+use Rattle.sequence.specs.Calls.{callSize, callAt, callsFrom, callsOf, rowsOf}
 use Rattle.sequence.proofs.CallLaws.{rows-length, answers-length, calls-length}
 
 -- the row of call i lies within the places for n
@@ -37,11 +37,11 @@ module _ (calls words : List ℕ) where
       ap (callsFrom calls words 0) e
 
   -- there are places for all rows
-  pub room : (b d : List ℕ) → 16 * (length calls / 6) ≤ length d → length (rowsOf (answers b (callsOf calls words))) ≤ length d
+  pub room : (b d : List ℕ) → 16 * (length calls / callSize) ≤ length d → length (rowsOf (answers b (callsOf calls words))) ≤ length d
   room b d h =
       let r = rows-length (answers b (callsOf calls words)) in
       let a = answers-length b (callsOf calls words) in
-      let k = calls-length calls words 0 (length calls / 6) in
+      let k = calls-length calls words 0 (length calls / callSize) in
       omega arith
 
   pub final-start : (b : List ℕ) (n : ℕ) → finalBytes b (callsFrom calls words 0 (n - 0)) ≡ finalBytes b (callsFrom calls words 0 n)

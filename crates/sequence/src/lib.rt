@@ -21,6 +21,11 @@ pub enum Replayed {
 // The kind of a rewrite; any other is a question.
 const REWRITE: u64 = 8;
 
+// How many numbers a call has, and an answer.
+const CALL_SIZE: usize = 7;
+
+const ANSWER_SIZE: usize = 16;
+
 // A track or revolution, as a number of 32 bits: what is above the largest counts as that.
 fn cap(n: u64) -> u32
     ensures { λ r. ⌜ r ≡ capped n ⌝ }
@@ -52,11 +57,11 @@ fn rewrite_row(
 
 // Makes the call of row i, and hands back the row of its answer.
 fn call_row(image: &mut [u8], calls: &[u64], words: &[u8], i: usize) -> [u64; 16]
-    requires { ⌜ 7 * i + 7 ≤ length (now calls) ⌝ }
+    requires { ⌜ callSize * i + callSize ≤ length (now calls) ⌝ }
     ensures { λ r. ⌜ r ≡ rowOf (answer (now (image .entry)) (callAt (now (calls .entry)) (now (words .entry)) i)) ⌝ }
     ensures { λ _. ⌜ now (image .exit) ≡ after (now (image .entry)) (callAt (now (calls .entry)) (now (words .entry)) i) ⌝ }
 {
-    let at = 7 * i;
+    let at = CALL_SIZE * i;
     let kind = calls[at];
     let track = cap(calls[at + 1]);
     let revolution = cap(calls[at + 2]);
@@ -75,11 +80,11 @@ fn run_calls(image: &mut [u8], calls: &[u64], words: &[u8], answers: &mut [u64])
     ensures { λ _. ⌜ now (image .exit) ≡ finalBytes (now (image .entry)) (callsOf (now (calls .entry)) (now (words .entry))) ⌝ }
     ensures { λ _. ⌜ now (answers .exit) ≡ placesAfter (answersOf (now (image .entry)) (callsOf (now (calls .entry)) (now (words .entry)))) (now (answers .entry)) ⌝ }
 {
-    let n = calls.len() / 7;
+    let n = calls.len() / CALL_SIZE;
     let mut i = 0;
     while i < n {
         let row = call_row(image, calls, words, i);
-        copies::numbers(answers, 16 * i, &row);
+        copies::numbers(answers, ANSWER_SIZE * i, &row);
         i += 1;
     }
 }
@@ -89,7 +94,7 @@ pub fn replay(image: &mut [u8], calls: &[u64], words: &[u8], answers: &mut [u64]
     ensures { λ r. ⌜ ofReplayed r ≡ replayAnswer (now (calls .entry)) (length (now (answers .entry))) ⌝ }
     ensures { λ _. ⌜ Replays (now (image .entry)) (now (calls .entry)) (now (words .entry)) (now (answers .entry)) (now (image .exit)) (now (answers .exit)) ⌝ }
 {
-    if answers.len() / 16 < calls.len() / 7 {
+    if answers.len() / ANSWER_SIZE < calls.len() / CALL_SIZE {
         return Replayed::Refused(refusals::refuse(refusals::PLACES, 0));
     }
     run_calls(image, calls, words, answers);

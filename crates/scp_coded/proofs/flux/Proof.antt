@@ -38,7 +38,7 @@ returns c =
     let a = at-call .before .before .before .args in
     let found = ap ofRevolution (sym (at-told .answer .given .1)) ∙ at-call .revolution .ensures in
     let d = at-told .answer .given .0 .0 in
-    let told = ap (bytes (d .offset .0)) (at-flux .flux-of .ensures) ∙ flux-found (a .image .now) (a .track) (a .revolution) d found in
+    let told = ap (bytes (d .offset .0)) (at-flux .flux-of .ensures) ∙ flux-found (a .edition) (a .image .now) (a .track) (a .revolution) d found in
     pass-values (a .out .now) (ap numbersOf told) (at-give .give-bytes .ensures)
 
 returns-2 : tie.Need-returns-2
@@ -47,7 +47,7 @@ returns-2 c =
     let at-call = at-told .before .before in
     let a = at-call .before .before .before .args in
     let found = ap ofRevolution (sym (at-told .answer2 .given .1)) ∙ at-call .revolution .ensures in
-    let told = flux-refused (a .image .now) (a .track) (a .revolution) _ found in
+    let told = flux-refused (a .edition) (a .image .now) (a .track) (a .revolution) _ found in
     pass-refusal (a .out .now) (ap numbersOf told) (c .code .ensures)
 
 pub flux-spec : {M : Type 1} → statement M

@@ -34,7 +34,7 @@ returns c =
     let found = ap ofRevolution (sym (at-told .answer .given .1)) ∙ at-call .revolution .ensures in
     let d = at-told .answer .given .0 .0 in
     c .bytes-row .ensures
-    ∙ ap rowOf (ap (bytes (d .offset .0)) (at-flux .flux-of .ensures) ∙ flux-found (a .image .now) (a .track) (a .revolution) d found)
+    ∙ ap rowOf (ap (bytes (d .offset .0)) (at-flux .flux-of .ensures) ∙ flux-found (a .edition) (a .image .now) (a .track) (a .revolution) d found)
 
 returns-2 : tie.Need-returns-2
 returns-2 c =
@@ -42,7 +42,7 @@ returns-2 c =
     let at-call = at-told .before .before in
     let a = at-call .before .before .args in
     let found = ap ofRevolution (sym (at-told .answer2 .given .1)) ∙ at-call .revolution .ensures in
-    c .refused-row .ensures ∙ ap rowOf (flux-refused (a .image .now) (a .track) (a .revolution) _ found)
+    c .refused-row .ensures ∙ ap rowOf (flux-refused (a .edition) (a .image .now) (a .track) (a .revolution) _ found)
 
 pub flux-row-spec : {M : Type 1} → statement M
 flux-row-spec =

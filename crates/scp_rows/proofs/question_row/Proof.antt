@@ -17,7 +17,7 @@ unfolding questionOf asked
 returns c =
     let at-if = c .before in
     let a = at-if .before .before .args in
-    c .header-row .ensures ∙ ap (λ (x : ℕ). rowOf (asked (a .image .now) (questionOf x (a .track) (a .revolution)))) (sym (at-if .if1 .taken))
+    c .header-row .ensures ∙ ap (λ (x : ℕ). rowOf (asked (a .edition) (a .image .now) (questionOf x (a .track) (a .revolution)))) (sym (at-if .if1 .taken))
 
 footer-row-requires : tie.Need-footer-row-requires
 footer-row-requires c κs = search needs
@@ -27,7 +27,7 @@ unfolding questionOf asked
 returns-2 c =
     let at-if = c .before in
     let a = at-if .before .before .before .args in
-    c .footer-row .ensures ∙ ap (λ (x : ℕ). rowOf (asked (a .image .now) (questionOf x (a .track) (a .revolution)))) (sym (at-if .if2 .taken))
+    c .footer-row .ensures ∙ ap (λ (x : ℕ). rowOf (asked (a .edition) (a .image .now) (questionOf x (a .track) (a .revolution)))) (sym (at-if .if2 .taken))
 
 track-row-requires : tie.Need-track-row-requires
 track-row-requires c κs = search needs
@@ -37,7 +37,7 @@ unfolding questionOf asked
 returns-3 c =
     let at-if = c .before in
     let a = at-if .before .before .before .before .args in
-    c .track-row .ensures ∙ ap (λ (x : ℕ). rowOf (asked (a .image .now) (questionOf x (a .track) (a .revolution)))) (sym (at-if .if3 .taken))
+    c .track-row .ensures ∙ ap (λ (x : ℕ). rowOf (asked (a .edition) (a .image .now) (questionOf x (a .track) (a .revolution)))) (sym (at-if .if3 .taken))
 
 revolution-row-requires : tie.Need-revolution-row-requires
 revolution-row-requires c κs = search needs
@@ -47,7 +47,7 @@ unfolding questionOf asked
 returns-4 c =
     let at-if = c .before in
     let a = at-if .before .before .before .before .before .args in
-    c .revolution-row .ensures ∙ ap (λ (x : ℕ). rowOf (asked (a .image .now) (questionOf x (a .track) (a .revolution)))) (sym (at-if .if4 .taken))
+    c .revolution-row .ensures ∙ ap (λ (x : ℕ). rowOf (asked (a .edition) (a .image .now) (questionOf x (a .track) (a .revolution)))) (sym (at-if .if4 .taken))
 
 flux-row-requires : tie.Need-flux-row-requires
 flux-row-requires c κs = search needs
@@ -57,7 +57,7 @@ unfolding questionOf asked
 returns-5 c =
     let at-if = c .before in
     let a = at-if .before .before .before .before .before .before .args in
-    c .flux-row .ensures ∙ ap (λ (x : ℕ). rowOf (asked (a .image .now) (questionOf x (a .track) (a .revolution)))) (sym (at-if .if5 .taken))
+    c .flux-row .ensures ∙ ap (λ (x : ℕ). rowOf (asked (a .edition) (a .image .now) (questionOf x (a .track) (a .revolution)))) (sym (at-if .if5 .taken))
 
 speed-row-requires : tie.Need-speed-row-requires
 speed-row-requires c κs = search needs
@@ -67,7 +67,7 @@ unfolding questionOf asked
 returns-6 c =
     let at-if = c .before in
     let a = at-if .before .before .before .before .before .before .before .args in
-    c .speed-row .ensures ∙ ap (λ (x : ℕ). rowOf (asked (a .image .now) (questionOf x (a .track) (a .revolution)))) (sym (at-if .if6 .taken))
+    c .speed-row .ensures ∙ ap (λ (x : ℕ). rowOf (asked (a .edition) (a .image .now) (questionOf x (a .track) (a .revolution)))) (sym (at-if .if6 .taken))
 
 track-speed-row-requires : tie.Need-track-speed-row-requires
 track-speed-row-requires c κs = search needs
@@ -77,7 +77,7 @@ unfolding questionOf asked
 returns-7 c =
     let at-if = c .before in
     let a = at-if .before .before .before .before .before .before .before .before .args in
-    c .track-speed-row .ensures ∙ ap (λ (x : ℕ). rowOf (asked (a .image .now) (questionOf x (a .track) (a .revolution)))) (sym (at-if .if7 .taken))
+    c .track-speed-row .ensures ∙ ap (λ (x : ℕ). rowOf (asked (a .edition) (a .image .now) (questionOf x (a .track) (a .revolution)))) (sym (at-if .if7 .taken))
 
 validate-row-requires : tie.Need-validate-row-requires
 validate-row-requires c κs = search needs
@@ -95,7 +95,7 @@ returns-8 c =
     let a = e1 .before .before .args in
     let other : questionOf (a .kind) (a .track) (a .revolution) ≡ book.validate =
     simp (ne-eqb _ _ (e1 .if1 .left), ne-eqb _ _ (e2 .if2 .left), ne-eqb _ _ (e3 .if3 .left), ne-eqb _ _ (e4 .if4 .left), ne-eqb _ _ (e5 .if5 .left), ne-eqb _ _ (e6 .if6 .left), ne-eqb _ _ (e7 .if7 .left)) in
-    c .validate-row .ensures ∙ ap (λ (q : Question). rowOf (asked (a .image .now) q)) (sym other)
+    c .validate-row .ensures ∙ ap (λ (q : Question). rowOf (asked (a .edition) (a .image .now) q)) (sym other)
 
 pub question-row-spec : {M : Type 1} → statement M
 question-row-spec =

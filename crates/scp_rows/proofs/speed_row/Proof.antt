@@ -17,7 +17,7 @@ rpm-row-requires : tie.Need-rpm-row-requires
 rpm-row-requires c κs =
     let at-told = c .before in
     let at-call = at-told .before .before in
-    subst Real (sym (ap ofSpeed (sym (at-told .found .given .1)) ∙ at-call .speed .ensures)) (speed-real _ _ _)
+    subst Real (sym (ap ofSpeed (sym (at-told .found .given .1)) ∙ at-call .speed .ensures)) (speed-real _ _ _ _)
 
 enum-known-found-2 : tie.Need-enum-known-found-2
 enum-known-found-2 c = search needs

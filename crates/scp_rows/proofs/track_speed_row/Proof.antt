@@ -13,18 +13,18 @@ track-speed-requires c κs = search needs
 enum-known-found : tie.Need-enum-known-found
 enum-known-found c = search needs
 
-float-to-bits-t8 : tie.Need-float-to-bits-t8
-float-to-bits-t8 c =
-    let at-told = c .before .before in
-    let at-call = at-told .before .before in
-    let real = subst Real (sym (ap ofTrackSpeed (sym (at-told .found .given .1)) ∙ at-call .track-speed .ensures)) (track-speed-real _ _) in
-    real .0
-
 float-to-bits-t9 : tie.Need-float-to-bits-t9
 float-to-bits-t9 c =
+    let at-told = c .before .before in
+    let at-call = at-told .before .before in
+    let real = subst Real (sym (ap ofTrackSpeed (sym (at-told .found .given .1)) ∙ at-call .track-speed .ensures)) (track-speed-real _ _ _) in
+    real .0
+
+float-to-bits-t10 : tie.Need-float-to-bits-t10
+float-to-bits-t10 c =
     let at-told = c .before .before .before in
     let at-call = at-told .before .before in
-    let real = subst Real (sym (ap ofTrackSpeed (sym (at-told .found .given .1)) ∙ at-call .track-speed .ensures)) (track-speed-real _ _) in
+    let real = subst Real (sym (ap ofTrackSpeed (sym (at-told .found .given .1)) ∙ at-call .track-speed .ensures)) (track-speed-real _ _ _) in
     real .1 .0
 
 slice-aggregate-values-row : tie.Need-slice-aggregate-values-row
@@ -69,8 +69,8 @@ track-speed-row-spec =
     (tie.spec
     track-speed-requires
     enum-known-found
-    float-to-bits-t8
     float-to-bits-t9
+    float-to-bits-t10
     slice-aggregate-values-row
     values-row-requires
     enum-told

@@ -1,8 +1,8 @@
 -- The kind picks a rewrite or a question, and its numbers are those of the row.
-use mathlib.Core.Path.{sym, ap, ap₂, _∙_}
-use Rattle.scp_book.specs.Book.{Call, ask, answer, after}
-use Rattle.scp_rows.specs.Rows.{questionOf, rowOf}
-use Rattle.sequence.proofs.CallLaws.{call-rewrite, call-question, rewrite-same}
+use mathlib.Core.Path.{sym, ap, _∙_}
+use Rattle.scp_book.specs.Book.{Call, answer, after}
+use Rattle.scp_rows.specs.Rows.{rowOf}
+use Rattle.sequence.proofs.CallLaws.{call-rewrite, call-question, rewrite-same, question-same}
 use borrow.Author.Needs.{needs}
 use Rattle.sequence.proofs.call_row.Statement.{statement}
 use Rattle.sequence.proofs.call_row.Tie as tie
@@ -39,6 +39,18 @@ shared-slice-read-cap-2 c = search needs
 
 cap-requires-2 : tie.Need-cap-requires-2
 cap-requires-2 c κs = search needs
+
+add-edition-of : tie.Need-add-edition-of
+add-edition-of c = search needs
+
+mul-edition-of : tie.Need-mul-edition-of
+mul-edition-of c = search needs
+
+shared-slice-read-edition-of : tie.Need-shared-slice-read-edition-of
+shared-slice-read-edition-of c = search needs
+
+edition-of-requires : tie.Need-edition-of-requires
+edition-of-requires c κs = search needs
 
 add-duration : tie.Need-add-duration
 add-duration c = search needs
@@ -85,12 +97,13 @@ returns c =
     let at-rewrite = c .before .before in
     let at-part = at-rewrite .before .before in
     let at-if = at-part .before .before .before .before in
-    let at-revolution = at-if .before in
+    let at-edition = at-if .before in
+    let at-revolution = at-edition .before .before in
     let at-track = at-revolution .before .before in
     let a = at-track .before .before .before .before .before .before .args in
     let b = a .image .now in
     let call = call-rewrite (a .calls .now) (a .words .now) (a .i) (at-if .if1 .taken) in
-    let same = rewrite-same _ (at-track .cap .ensures) (at-revolution .cap2 .ensures) (at-part .part-of .ensures) in (
+    let same = rewrite-same _ (at-edition .edition-of .ensures) (at-track .cap .ensures) (at-revolution .cap2 .ensures) (at-part .part-of .ensures) in (
       at-rewrite .rewrite-row .ensures .0 ∙ ap (λ (q : Call). rowOf (answer b q)) (same ∙ sym call),
       at-rewrite .rewrite-row .ensures .1 ∙ ap (after b) (same ∙ sym call),
     )
@@ -105,12 +118,13 @@ returns-2 : tie.Need-returns-2
 unfolding answer after
 returns-2 c =
     let at-else = c .before .before in
-    let at-revolution = at-else .before in
+    let at-edition = at-else .before in
+    let at-revolution = at-edition .before .before in
     let at-track = at-revolution .before .before in
     let a = at-track .before .before .before .before .before .before .args in
     let b = a .image .now in
     let call = call-question (a .calls .now) (a .words .now) (a .i) (at-else .if1 .left) in
-    let same = ap ask (ap₂ (questionOf _) (at-track .cap .ensures) (at-revolution .cap2 .ensures)) in (
+    let same = question-same _ (at-edition .edition-of .ensures) (at-track .cap .ensures) (at-revolution .cap2 .ensures) in (
       c .question-row .ensures ∙ ap (λ (q : Call). rowOf (answer b q)) (same ∙ sym call),
       sym (ap (after b) call),
     )
@@ -130,7 +144,7 @@ call-row-spec =
     mul-cap-2
     shared-slice-read-cap-2
     cap-requires-2
-    add-duration
+    add-edition-of mul-edition-of shared-slice-read-edition-of edition-of-requires add-duration
     mul-duration
     shared-slice-read-duration
     cast-duration

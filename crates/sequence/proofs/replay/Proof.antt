@@ -4,6 +4,7 @@ use Prim.Native.Nat.{_*_, _/_, _<_, _≤_}
 use native.Mathlib.Omega.{arith}
 use lib.ListN.{length}
 use Rattle.sequence.proofs.ReplayLaws.{refused-replay, done-replay}
+use Rattle.sequence.specs.Calls.{callSize}
 use borrow.Author.Needs.{needs}
 use Rattle.sequence.proofs.replay.Statement.{statement}
 use Rattle.sequence.proofs.replay.Tie as tie
@@ -14,7 +15,7 @@ refuse-requires c κs = search needs
 returns : tie.Need-returns
 returns c =
     let a = c .before .before .before .before .before .before .args in
-    let few : length (a .answers .now) < 16 * (length (a .calls .now) / 6) = omega arith in
+    let few : length (a .answers .now) < 16 * (length (a .calls .now) / callSize) = omega arith in
     refused-replay _ _ _ _ few (c .refuse .ensures)
 
 run-calls-requires : tie.Need-run-calls-requires
@@ -33,7 +34,7 @@ returns-2 c =
     let at-words = at-else .before .before in
     let at-image = at-words .before .before in
     let a = at-image .before .args in
-    let places : 16 * (length (a .calls .now) / 6) ≤ length (a .answers .now) = omega arith in
+    let places : 16 * (length (a .calls .now) / callSize) ≤ length (a .answers .now) = omega arith in
     done-replay _ _ _ _ places (λ i. at-image .slice-known .given i .fits) (λ i. at-words .shared-slice-known2 .given i .fits) (at-run .run-calls .ensures .0) (at-run .run-calls .ensures .1)
 
 pub replay-spec : {M : Type 1} → statement M

@@ -8,7 +8,7 @@ use borrow.Author.Needs.{needs}
 use Rattle.flux.proofs.Wrote.{Wrote, retell, moved, whole-is}
 use Rattle.scp_book.specs.Book as book
 use Rattle.scp_book.specs.Book.{finalBytes}
-use Rattle.sequence.specs.Calls.{callAt, callsFrom, rowsOf}
+use Rattle.sequence.specs.Calls.{callSize, callAt, callsFrom, rowsOf}
 use Rattle.copies.proofs.CopyLaws.{copy-fits}
 use Rattle.sequence.proofs.Running.{room, row-fits, final-start, final-next, final-end, wrote-start, wrote-next, rows-end}
 use Rattle.sequence.proofs.run_calls.Statement.{statement}
@@ -67,7 +67,7 @@ loop-again c =
     let below = in-loop .loop-test .taken in
     let made = at-call .call-row .ensures in
     let whole = room calls words (a .image .now) (a .answers .now) (l .inv .1) in
-    let fits = row-fits (book.answer (l .image) (callAt calls words (l .i))) (l .answers) (a .answers .now) (l .i) (length calls / 6) (made .0) (l .inv .1) (l .inv .4 .same) below in (
+    let fits = row-fits (book.answer (l .image) (callAt calls words (l .i))) (l .answers) (a .answers .now) (l .i) (length calls / callSize) (made .0) (l .inv .1) (l .inv .4 .same) below in (
       search needs,
       l .inv .1,
       omega arith,
