@@ -7,7 +7,10 @@ use native.Mathlib.Omega.{arith}
 use lib.Dec.{eqb}
 use Rattle.refusals.specs.declared.Refusal.{Refusal}
 use Rattle.refusals.specs.Refusals.{none, refusal, passes}
-use Rattle.scp_fields.specs.Header.{trackSlots, hasFooter, trackEntry}
+use Rattle.scp_fields.specs.declared.Edition.{Edition}
+use Rattle.scp_fields.specs.Editions.{slots}
+use Rattle.scp_fields.specs.Header.{hasFooter, trackEntry}
+use Rattle.scp_fields.proofs.EditionLaws.{slots-most}
 use Rattle.scp_fields.specs.Footer.{stringSlots}
 use Rattle.scp_footer.specs.Footer.{stringFaultAt, stringFault, footerFault}
 use Rattle.scp_header.specs.HeaderFault.{headFault}
@@ -28,19 +31,19 @@ use Rattle.boundary.proofs.SmallCodes.{Small, small-none, small-first, small-at
 
 -- ---- what refuses an image
 
-module _ (b : List ℕ) where
-  string-small : (j : ℕ) → j < 256 → Small (stringFault b j)
+module _ (v : Edition) (b : List ℕ) where
+  string-small : (j : ℕ) → j < 256 → Small (stringFault v b j)
   unfolding stringFaultAt
   string-small j h = small-if _ _ 0 (omega arith) (small-at _ _ 8 j (omega arith) (omega arith) small-none)
 
-  footer-small : Small (footerFault b)
+  footer-small : Small (footerFault v b)
   unfolding footerFault
   footer-small =
       small-if _ _ 7 (omega arith)
       (small-if _ _ 0 (omega arith)
-      (small-from (stringFault b) 0 stringSlots (λ j a z. string-small j (omega arith))))
+      (small-from (stringFault v b) 0 stringSlots (λ j a z. string-small j (omega arith))))
 
-  head-small : Small (headFault b)
+  head-small : Small (headFault v b)
   unfolding headFault
   head-small =
       small-if _ _ 1 (omega arith)
@@ -51,7 +54,7 @@ module _ (b : List ℕ) where
       (small-if _ _ 6 (omega arith)
       footer-small)))))
 
-  track-small : (t : ℕ) → t < 256 → Small (trackFault b t)
+  track-small : (t : ℕ) → t < 256 → Small (trackFault v b t)
   unfolding trackFaultAt
   track-small t h =
       small-if _ _ 0 (omega arith)
@@ -60,26 +63,26 @@ module _ (b : List ℕ) where
       (small-at _ _ 11 t (omega arith) (omega arith)
       small-none)))
 
-  open-small : Small (openFault b)
+  open-small : Small (openFault v b)
   unfolding openFault
   open-small =
-      small-first (headFault b) (tracksFault b) head-small
-      (small-from (trackFault b) 0 trackSlots (λ t a z. track-small t (omega arith)))
+      small-first (headFault v b) (tracksFault v b) head-small
+      (small-from (trackFault v b) 0 (slots v) (λ t a z. track-small t (omega (arith, slots-most v))))
 
   -- ---- what refuses a call
 
-  validate-small : Small (validateFault b)
+  validate-small : Small (validateFault v b)
   unfolding validateFault
-  validate-small = small-first (openFault b) _ open-small (small-if _ _ 12 (omega arith) small-none)
+  validate-small = small-first (openFault v b) _ open-small (small-if _ _ 12 (omega arith) small-none)
 
-  asked-small : (t : ℕ) (rest : Refusal) → Small rest → Small (trackThen b t rest)
+  asked-small : (t : ℕ) (rest : Refusal) → Small rest → Small (trackThen v b t rest)
   unfolding trackThen
-  asked-small t rest h = small-first (openFault b) _ open-small (small-if _ _ 13 (omega arith) (small-if _ _ 13 (omega arith) h))
+  asked-small t rest h = small-first (openFault v b) _ open-small (small-if _ _ 13 (omega arith) (small-if _ _ 13 (omega arith) h))
 
-  revolution-small : (t k : ℕ) (rest : Refusal) → Small rest → Small (revolutionThen b t k rest)
+  revolution-small : (t k : ℕ) (rest : Refusal) → Small rest → Small (revolutionThen v b t k rest)
   revolution-small t k rest h = asked-small t _ (small-if _ _ 14 (omega arith) h)
 
-  rewrite-small : (t k : ℕ) (ws : List ℕ) → Small (rewriteFault b t k ws)
+  rewrite-small : (t k : ℕ) (ws : List ℕ) → Small (rewriteFault v b t k ws)
   unfolding rewriteFault wordsThenShared
   rewrite-small t k ws = revolution-small t k _ (small-if _ _ 17 (omega arith) (small-if _ _ 18 (omega arith) small-none))
 
@@ -96,22 +99,22 @@ range-whole : (t : Bool) (s : TrackSpeeds) → Whole (ofSpeedRange (cond t range
 range-whole true s = tt
 range-whole false s = tt
 
-question-whole : (b : List ℕ) (q : Question) → Whole (asked b q)
+question-whole : (v : Edition) (b : List ℕ) (q : Question) → Whole (asked v b q)
 unfolding asked headerAnswer footerAnswer footerValues trackAnswer revolutionAnswer speedAnswer trackSpeedAnswer speedsOf
-question-whole b validate = whole-unless (validateFault b) _ (validate-small b) tt
-question-whole b header = whole-unless (openFault b) _ (open-small b) tt
-question-whole b footer = whole-unless (openFault b) _ (open-small b) (whole-either (hasFooter b) (footerValues b) answers.none tt tt)
-question-whole b (track t) = whole-unless (trackQuestion b t) _ (asked-small b t none small-none) tt
-question-whole b (revolution t k) = whole-unless (revolutionQuestion b t k) _ (revolution-small b t k none small-none) tt
-question-whole b (flux t k) = whole-unless (revolutionQuestion b t k) _ (revolution-small b t k none small-none) tt
-question-whole b (speed t k) =
-    whole-unless (revolutionQuestion b t k) _ (revolution-small b t k none small-none)
+question-whole v b validate = whole-unless (validateFault v b) _ (validate-small v b) tt
+question-whole v b header = whole-unless (openFault v b) _ (open-small v b) tt
+question-whole v b footer = whole-unless (openFault v b) _ (open-small v b) (whole-either (hasFooter v b) (footerValues b) answers.none tt tt)
+question-whole v b (track t) = whole-unless (trackQuestion v b t) _ (asked-small v b t none small-none) tt
+question-whole v b (revolution t k) = whole-unless (revolutionQuestion v b t k) _ (revolution-small v b t k none small-none) tt
+question-whole v b (flux t k) = whole-unless (revolutionQuestion v b t k) _ (revolution-small v b t k none small-none) tt
+question-whole v b (speed t k) =
+    whole-unless (revolutionQuestion v b t k) _ (revolution-small v b t k none small-none)
     (whole-either (eqb (durationAt b (trackEntry b t) k) 0) answers.none _ tt tt)
-question-whole b (trackSpeed t) =
-    whole-unless (trackQuestion b t) _ (asked-small b t none small-none)
+question-whole v b (trackSpeed t) =
+    whole-unless (trackQuestion v b t) _ (asked-small v b t none small-none)
     (range-whole (eqb (longest b (trackEntry b t)) 0) _)
 
 pub uncut : Uncut
 unfolding answer
-uncut b (ask q) = question-whole b q
-uncut b (rewrite t k d ws) = whole-unless (rewriteFault b t k ws) (numbers []) (rewrite-small b t k ws) tt
+uncut b (ask v q) = question-whole v b q
+uncut b (rewrite v t k d ws) = whole-unless (rewriteFault v b t k ws) (numbers []) (rewrite-small v b t k ws) tt

@@ -1,5 +1,6 @@
 // The boundary to C and Rust: each call returns 0, or a refusal's number + 256 x its position, and puts its values to a lent buffer.
-// A slice passes as a pointer and a length (include/scp.h), and an edition as a number: 14 is 1.4, any other 1.6. What a call on flux or a question does stands in `flux_coded` and `scp_coded`.
+// A slice passes as a pointer and a length (include/scp.h), and an edition as a number: 14 is 1.4, any other 1.6. What a call on flux or a
+// question does stands in `flux_coded` and `scp_coded`.
 ghost use mathlib.Core.Path.{_≡_};
 ghost use lib.ListN.{length};
 ghost use Rattle.scp_fields.specs.Editions.{editionOf};
@@ -20,7 +21,7 @@ use sequence::Replayed;
 pub extern "C" fn scp_validate(image: &[u8], edition: u32) -> u64
     ensures { λ r. ⌜ r ≡ codeOf (numbersOf (validateAnswer (editionOf edition) (now (image .entry)))) ⌝ }
 {
-    scp_coded::validate(image, scp_fields::edition_of(edition as u64))
+    scp_coded::validate(image, edition)
 }
 
 // The header: version, disk type, revolutions, start, end, flags, width, heads, checksum.
@@ -29,7 +30,7 @@ pub extern "C" fn scp_header(image: &[u8], edition: u32, out: &mut [u64]) -> u64
     ensures { λ r. ⌜ r ≡ codeOf (within (length (now (out .entry))) (numbersOf (headerAnswer (editionOf edition) (now (image .entry))))) ⌝ }
     ensures { λ _. ⌜ now (out .exit) ≡ outAfter (now (out .entry)) (within (length (now (out .entry))) (numbersOf (headerAnswer (editionOf edition) (now (image .entry))))) ⌝ }
 {
-    scp_coded::header(image, scp_fields::edition_of(edition as u64), out)
+    scp_coded::header(image, edition, out)
 }
 
 // The footer: 1, six offsets, two times, four version bytes; 13 zeros where there is none.
@@ -38,7 +39,7 @@ pub extern "C" fn scp_footer(image: &[u8], edition: u32, out: &mut [u64]) -> u64
     ensures { λ r. ⌜ r ≡ codeOf (within (length (now (out .entry))) (numbersOf (footerAnswer (editionOf edition) (now (image .entry))))) ⌝ }
     ensures { λ _. ⌜ now (out .exit) ≡ outAfter (now (out .entry)) (within (length (now (out .entry))) (numbersOf (footerAnswer (editionOf edition) (now (image .entry))))) ⌝ }
 {
-    scp_coded::footer(image, scp_fields::edition_of(edition as u64), out)
+    scp_coded::footer(image, edition, out)
 }
 
 // A track: cylinder, head, file offset of its header, revolutions.
@@ -47,7 +48,7 @@ pub extern "C" fn scp_track(image: &[u8], edition: u32, track: u32, out: &mut [u
     ensures { λ r. ⌜ r ≡ codeOf (within (length (now (out .entry))) (numbersOf (trackAnswer (editionOf edition) (now (image .entry)) track))) ⌝ }
     ensures { λ _. ⌜ now (out .exit) ≡ outAfter (now (out .entry)) (within (length (now (out .entry))) (numbersOf (trackAnswer (editionOf edition) (now (image .entry)) track))) ⌝ }
 {
-    scp_coded::track(image, scp_fields::edition_of(edition as u64), track, out)
+    scp_coded::track(image, edition, track, out)
 }
 
 // A revolution: duration, words, file offset of its flux.
@@ -62,13 +63,7 @@ pub extern "C" fn scp_revolution(
     ensures { λ r. ⌜ r ≡ codeOf (within (length (now (out .entry))) (numbersOf (revolutionAnswer (editionOf edition) (now (image .entry)) track revolution))) ⌝ }
     ensures { λ _. ⌜ now (out .exit) ≡ outAfter (now (out .entry)) (within (length (now (out .entry))) (numbersOf (revolutionAnswer (editionOf edition) (now (image .entry)) track revolution))) ⌝ }
 {
-    scp_coded::revolution(
-        image,
-        scp_fields::edition_of(edition as u64),
-        track,
-        revolution,
-        out,
-    )
+    scp_coded::revolution(image, edition, track, revolution, out)
 }
 
 // The flux of a revolution.
@@ -83,13 +78,7 @@ pub extern "C" fn scp_flux(
     ensures { λ r. ⌜ r ≡ codeOf (within (length (now (out .entry))) (numbersOf (fluxAnswer (editionOf edition) (now (image .entry)) track revolution))) ⌝ }
     ensures { λ _. ⌜ now (out .exit) ≡ outAfter (now (out .entry)) (within (length (now (out .entry))) (numbersOf (fluxAnswer (editionOf edition) (now (image .entry)) track revolution))) ⌝ }
 {
-    scp_coded::flux(
-        image,
-        scp_fields::edition_of(edition as u64),
-        track,
-        revolution,
-        out,
-    )
+    scp_coded::flux(image, edition, track, revolution, out)
 }
 
 // ---- speeds
@@ -106,13 +95,7 @@ pub extern "C" fn scp_speed(
     ensures { λ r. ⌜ r ≡ codeOf (within (length (now (out .entry))) (floatsOf 2 (speedAnswer (editionOf edition) (now (image .entry)) track revolution))) ⌝ }
     ensures { λ _. ⌜ now (out .exit) ≡ outAfter (now (out .entry)) (within (length (now (out .entry))) (floatsOf 2 (speedAnswer (editionOf edition) (now (image .entry)) track revolution))) ⌝ }
 {
-    scp_coded::speed(
-        image,
-        scp_fields::edition_of(edition as u64),
-        track,
-        revolution,
-        out,
-    )
+    scp_coded::speed(image, edition, track, revolution, out)
 }
 
 // The speeds of a track: 1.0, slowest, fastest, or three zeros.
@@ -121,7 +104,7 @@ pub extern "C" fn scp_track_speed(image: &[u8], edition: u32, track: u32, out: &
     ensures { λ r. ⌜ r ≡ codeOf (within (length (now (out .entry))) (floatsOf 3 (trackSpeedAnswer (editionOf edition) (now (image .entry)) track))) ⌝ }
     ensures { λ _. ⌜ now (out .exit) ≡ outAfter (now (out .entry)) (within (length (now (out .entry))) (floatsOf 3 (trackSpeedAnswer (editionOf edition) (now (image .entry)) track))) ⌝ }
 {
-    scp_coded::track_speed(image, scp_fields::edition_of(edition as u64), track, out)
+    scp_coded::track_speed(image, edition, track, out)
 }
 
 // ---- flux

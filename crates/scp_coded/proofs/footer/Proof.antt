@@ -8,6 +8,9 @@ use borrow.Author.Needs.{needs}
 use Rattle.scp_coded.proofs.footer.Statement.{statement}
 use Rattle.scp_coded.proofs.footer.Tie as tie
 
+edition-of-requires : tie.Need-edition-of-requires
+edition-of-requires c κs = search needs
+
 footer-requires : tie.Need-footer-requires
 footer-requires c κs = search needs
 
@@ -47,8 +50,8 @@ returns c =
     let at-numbers = at-give .before .before .before in
     let at-told = at-numbers .before .before in
     let at-call = at-told .before .before in
-    let start = at-call .before .before .before in
-    let found = ap ofFooter (sym (at-told .found .given .1)) ∙ at-call .footer .ensures in
+    let start = at-call .before .before .before .before in
+    let found = ap ofFooter (sym (at-told .found .given .1)) ∙ (rw (at-call .before .edition-of .ensures) at (at-call .footer .ensures)) in
     pass-values (start .args .out .now) (ap gives (at-numbers .footer-numbers .ensures) ∙ ap numbersOf found) (at-give .give .ensures)
 
 same-length-2 : tie.Need-same-length-2
@@ -59,23 +62,23 @@ returns-2 c =
     let at-give = c .before .before in
     let at-told = at-give .before .before .before in
     let at-call = at-told .before .before in
-    let start = at-call .before .before .before in
-    let found = ap ofFooter (sym (at-told .enum-told .given .1)) ∙ at-call .footer .ensures in
+    let start = at-call .before .before .before .before in
+    let found = ap ofFooter (sym (at-told .enum-told .given .1)) ∙ (rw (at-call .before .edition-of .ensures) at (at-call .footer .ensures)) in
     pass-values (start .args .out .now) (ap numbersOf found) (at-give .give2 .ensures)
 
 returns-3 : tie.Need-returns-3
 returns-3 c =
     let at-told = c .before .before in
     let at-call = at-told .before .before in
-    let start = at-call .before .before .before in
-    let found = ap ofFooter (sym (at-told .found2 .given .1)) ∙ at-call .footer .ensures in
+    let start = at-call .before .before .before .before in
+    let found = ap ofFooter (sym (at-told .found2 .given .1)) ∙ (rw (at-call .before .edition-of .ensures) at (at-call .footer .ensures)) in
     pass-refusal (start .args .out .now) (ap numbersOf found) (c .code .ensures)
 
 pub footer-spec : {M : Type 1} → statement M
 footer-spec =
     tie.close
     (tie.spec
-    footer-requires
+    edition-of-requires footer-requires
     enum-known-found
     footer-numbers-requires
     slice-aggregate-give

@@ -8,6 +8,9 @@ use borrow.Author.Needs.{needs}
 use Rattle.scp_coded.proofs.header.Statement.{statement}
 use Rattle.scp_coded.proofs.header.Tie as tie
 
+edition-of-requires : tie.Need-edition-of-requires
+edition-of-requires c κs = search needs
+
 header-requires : tie.Need-header-requires
 header-requires c κs = search needs
 
@@ -38,23 +41,23 @@ returns c =
     let at-numbers = at-give .before .before .before in
     let at-told = at-numbers .before .before in
     let at-call = at-told .before .before in
-    let start = at-call .before .before .before in
-    let found = ap ofHeader (sym (at-told .found .given .1)) ∙ at-call .header .ensures in
+    let start = at-call .before .before .before .before in
+    let found = ap ofHeader (sym (at-told .found .given .1)) ∙ (rw (at-call .before .edition-of .ensures) at (at-call .header .ensures)) in
     pass-values (start .args .out .now) (ap gives (at-numbers .header-numbers .ensures) ∙ ap numbersOf found) (at-give .give .ensures)
 
 returns-2 : tie.Need-returns-2
 returns-2 c =
     let at-told = c .before .before in
     let at-call = at-told .before .before in
-    let start = at-call .before .before .before in
-    let found = ap ofHeader (sym (at-told .found2 .given .1)) ∙ at-call .header .ensures in
+    let start = at-call .before .before .before .before in
+    let found = ap ofHeader (sym (at-told .found2 .given .1)) ∙ (rw (at-call .before .edition-of .ensures) at (at-call .header .ensures)) in
     pass-refusal (start .args .out .now) (ap numbersOf found) (c .code .ensures)
 
 pub header-spec : {M : Type 1} → statement M
 header-spec =
     tie.close
     (tie.spec
-    header-requires
+    edition-of-requires header-requires
     enum-known-found
     header-numbers-requires
     slice-aggregate-give

@@ -8,6 +8,9 @@ use borrow.Author.Needs.{needs}
 use Rattle.scp_coded.proofs.revolution.Statement.{statement}
 use Rattle.scp_coded.proofs.revolution.Tie as tie
 
+edition-of-requires : tie.Need-edition-of-requires
+edition-of-requires c κs = search needs
+
 revolution-requires : tie.Need-revolution-requires
 revolution-requires c κs = search needs
 
@@ -38,23 +41,23 @@ returns c =
     let at-numbers = at-give .before .before .before in
     let at-told = at-numbers .before .before in
     let at-call = at-told .before .before in
-    let start = at-call .before .before .before in
-    let found = ap ofRevolution (sym (at-told .found .given .1)) ∙ at-call .revolution .ensures in
+    let start = at-call .before .before .before .before in
+    let found = ap ofRevolution (sym (at-told .found .given .1)) ∙ (rw (at-call .before .edition-of .ensures) at (at-call .revolution .ensures)) in
     pass-values (start .args .out .now) (ap gives (at-numbers .revolution-numbers .ensures) ∙ ap numbersOf found) (at-give .give .ensures)
 
 returns-2 : tie.Need-returns-2
 returns-2 c =
     let at-told = c .before .before in
     let at-call = at-told .before .before in
-    let start = at-call .before .before .before in
-    let found = ap ofRevolution (sym (at-told .found2 .given .1)) ∙ at-call .revolution .ensures in
+    let start = at-call .before .before .before .before in
+    let found = ap ofRevolution (sym (at-told .found2 .given .1)) ∙ (rw (at-call .before .edition-of .ensures) at (at-call .revolution .ensures)) in
     pass-refusal (start .args .out .now) (ap numbersOf found) (c .code .ensures)
 
 pub revolution-spec : {M : Type 1} → statement M
 revolution-spec =
     tie.close
     (tie.spec
-    revolution-requires
+    edition-of-requires revolution-requires
     enum-known-found
     revolution-numbers-requires
     slice-aggregate-give

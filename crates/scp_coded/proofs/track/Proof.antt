@@ -8,6 +8,9 @@ use borrow.Author.Needs.{needs}
 use Rattle.scp_coded.proofs.track.Statement.{statement}
 use Rattle.scp_coded.proofs.track.Tie as tie
 
+edition-of-requires : tie.Need-edition-of-requires
+edition-of-requires c κs = search needs
+
 track-requires : tie.Need-track-requires
 track-requires c κs = search needs
 
@@ -38,23 +41,23 @@ returns c =
     let at-numbers = at-give .before .before .before in
     let at-told = at-numbers .before .before in
     let at-call = at-told .before .before in
-    let start = at-call .before .before .before in
-    let found = ap ofTrack (sym (at-told .found .given .1)) ∙ at-call .track .ensures in
+    let start = at-call .before .before .before .before in
+    let found = ap ofTrack (sym (at-told .found .given .1)) ∙ (rw (at-call .before .edition-of .ensures) at (at-call .track .ensures)) in
     pass-values (start .args .out .now) (ap gives (at-numbers .track-numbers .ensures) ∙ ap numbersOf found) (at-give .give .ensures)
 
 returns-2 : tie.Need-returns-2
 returns-2 c =
     let at-told = c .before .before in
     let at-call = at-told .before .before in
-    let start = at-call .before .before .before in
-    let found = ap ofTrack (sym (at-told .found2 .given .1)) ∙ at-call .track .ensures in
+    let start = at-call .before .before .before .before in
+    let found = ap ofTrack (sym (at-told .found2 .given .1)) ∙ (rw (at-call .before .edition-of .ensures) at (at-call .track .ensures)) in
     pass-refusal (start .args .out .now) (ap numbersOf found) (c .code .ensures)
 
 pub track-spec : {M : Type 1} → statement M
 track-spec =
     tie.close
     (tie.spec
-    track-requires
+    edition-of-requires track-requires
     enum-known-found
     track-numbers-requires
     slice-aggregate-give

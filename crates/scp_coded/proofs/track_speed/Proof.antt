@@ -10,6 +10,9 @@ use borrow.Author.Needs.{needs}
 use Rattle.scp_coded.proofs.track_speed.Statement.{statement}
 use Rattle.scp_coded.proofs.track_speed.Tie as tie
 
+edition-of-requires : tie.Need-edition-of-requires
+edition-of-requires c κs = search needs
+
 track-speed-requires : tie.Need-track-speed-requires
 track-speed-requires c κs = search needs
 
@@ -52,9 +55,9 @@ returns c =
     let at-whole = at-give .before .before .before in
     let at-told = at-whole .before .before in
     let at-call = at-told .before .before in
-    let start = at-call .before .before .before in
+    let start = at-call .before .before .before .before in
     pass-values (start .args .out .now)
-    (first-same (at-whole .whole .ensures) ∙ ap (floatsOf 3) (ap ofTrackSpeed (sym (at-told .found .given .1)) ∙ at-call .track-speed .ensures))
+    (first-same (at-whole .whole .ensures) ∙ ap (floatsOf 3) (ap ofTrackSpeed (sym (at-told .found .given .1)) ∙ (rw (at-call .before .edition-of .ensures) at (at-call .track-speed .ensures))))
     (at-give .give-floats .ensures)
 
 same-length-2 : tie.Need-same-length-2
@@ -66,26 +69,26 @@ returns-2 c =
     let at-whole = at-give .before .before .before in
     let at-told = at-whole .before in
     let at-call = at-told .before .before in
-    let start = at-call .before .before .before in
+    let start = at-call .before .before .before .before in
     pass-values (start .args .out .now)
     (ap (λ (z : Float). gives (z ∷ z ∷ z ∷ [])) (at-whole .whole2 .ensures)
-    ∙ ap (floatsOf 3) (ap ofTrackSpeed (sym (at-told .enum-told .given .1)) ∙ at-call .track-speed .ensures))
+    ∙ ap (floatsOf 3) (ap ofTrackSpeed (sym (at-told .enum-told .given .1)) ∙ (rw (at-call .before .edition-of .ensures) at (at-call .track-speed .ensures))))
     (at-give .give-floats2 .ensures)
 
 returns-3 : tie.Need-returns-3
 returns-3 c =
     let at-told = c .before .before in
     let at-call = at-told .before .before in
-    let start = at-call .before .before .before in
+    let start = at-call .before .before .before .before in
     pass-refusal (start .args .out .now)
-    (ap (floatsOf 3) (ap ofTrackSpeed (sym (at-told .found2 .given .1)) ∙ at-call .track-speed .ensures))
+    (ap (floatsOf 3) (ap ofTrackSpeed (sym (at-told .found2 .given .1)) ∙ (rw (at-call .before .edition-of .ensures) at (at-call .track-speed .ensures))))
     (c .code .ensures)
 
 pub track-speed-spec : {M : Type 1} → statement M
 track-speed-spec =
     tie.close
     (tie.spec
-    track-speed-requires
+    edition-of-requires track-speed-requires
     enum-known-found
     whole-requires
     slice-aggregate-give-floats

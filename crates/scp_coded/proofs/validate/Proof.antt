@@ -7,6 +7,9 @@ use borrow.Author.Needs.{needs}
 use Rattle.scp_coded.proofs.validate.Statement.{statement}
 use Rattle.scp_coded.proofs.validate.Tie as tie
 
+edition-of-requires : tie.Need-edition-of-requires
+edition-of-requires c κs = search needs
+
 validate-requires : tie.Need-validate-requires
 validate-requires c κs = search needs
 
@@ -22,15 +25,15 @@ code-requires c κs = search needs
 returns : tie.Need-returns
 returns c =
     let at-call = c .before .before in
-    ap (λ (a : Answer). codeOf (numbersOf a)) (ap ofValidated (sym (c .enum-told .given .1)) ∙ at-call .validate .ensures)
+    ap (λ (a : Answer). codeOf (numbersOf a)) (ap ofValidated (sym (c .enum-told .given .1)) ∙ (rw (at-call .before .edition-of .ensures) at (at-call .validate .ensures)))
 
 returns-2 : tie.Need-returns-2
 returns-2 c =
     let at-told = c .before .before in
     let at-call = at-told .before .before in
-    c .code .ensures ∙ ap (λ (a : Answer). codeOf (numbersOf a)) (ap ofValidated (sym (at-told .found .given .1)) ∙ at-call .validate .ensures)
+    c .code .ensures ∙ ap (λ (a : Answer). codeOf (numbersOf a)) (ap ofValidated (sym (at-told .found .given .1)) ∙ (rw (at-call .before .edition-of .ensures) at (at-call .validate .ensures)))
 
 pub validate-spec : {M : Type 1} → statement M
 validate-spec =
     tie.close
-    (tie.spec validate-requires enum-told enum-known-found code-requires returns returns-2)
+    (tie.spec edition-of-requires validate-requires enum-told enum-known-found code-requires returns returns-2)
