@@ -4,21 +4,17 @@ use std::collections::BTreeMap;
 use std::ops::Range;
 
 use crate::answers::{refuse, refuse_at, Footer, Header, Refusal, Revolution};
+use crate::edition::Edition;
 
 /// The rules, refusal 1: the greatest length; refusal 17 has the same bound.
 pub(crate) const GREATEST: u64 = 268_435_456;
 
-/// The rules, Layout: header and table take the first 688 bytes; nothing else lies there.
-pub(crate) const FIRST: u64 = 688;
-
 /// The rules, Layout: the footer is the last 48 bytes.
 pub(crate) const FOOTER: u64 = 48;
 
-/// The rules, Layout: the table has 168 entries.
-const TRACKS: u32 = 168;
-
 /// An image that none of 1 to 11 refuses, taken apart.
 pub(crate) struct Image {
+    pub(crate) edition: Edition,
     pub(crate) header: Header,
     pub(crate) footer: Option<Footer>,
     pub(crate) strings: Vec<Text>,
@@ -39,24 +35,24 @@ pub(crate) struct TrackData {
 
 impl Image {
     /// The rules, Numbers of refusal: 1 to 8, the lowest first, then the tracks from index 0 up.
-    pub(crate) fn parse(image: &[u8]) -> Result<Image, Refusal> {
-        let header = parse_header(image)?;
-        let footer = parse_footer(image, &header)?;
-        let body = body(image, &header);
+    pub(crate) fn parse(image: &[u8], edition: Edition) -> Result<Image, Refusal> {
+        let header = parse_header(image, edition)?;
+        let footer = parse_footer(image, edition, &header)?;
+        let body = body(image, edition, &header);
         let strings = match &footer {
-            Some(footer) => parse_strings(body, footer)?,
+            Some(footer) => parse_strings(body, edition, footer)?,
             None => Vec::new(),
         };
-        let tracks = parse_tracks(image, body, &header)?;
-        Ok(Image { header, footer, strings, tracks })
+        let tracks = parse_tracks(image, edition, body, &header)?;
+        Ok(Image { edition, header, footer, strings, tracks })
     }
 
-    /// The rules, rulings: "read/write" is FLAGS bit 4.
+    /// The rules, rulings: "read/write" is FLAGS bit 4, in both editions.
     pub(crate) fn read_write(&self) -> bool {
         flag(&self.header, 4)
     }
 
-    /// The rules, refusal 13: the track asked for is above 167 or has entry 0.
+    /// The rules, refusal 13: the track asked for is above 167, under 1.4 above 165, or has entry 0.
     pub(crate) fn track(&self, track: u32) -> Result<&TrackData, Refusal> {
         self.tracks.get(&track).ok_or(refuse(13))
     }
@@ -96,10 +92,15 @@ fn flag(header: &Header, bit: u32) -> bool {
     (header.flags >> bit) & 1 == 1
 }
 
-/// The rules, Layout: what lies below E, which is the length, less 48 if FLAGS bit 5 is set.
-fn body<'a>(image: &'a [u8], header: &Header) -> &'a [u8] {
+/// The rules, Layout and Q-6: a footer is there if FLAGS bit 5 is set, under 1.4 never.
+fn has_footer(edition: Edition, header: &Header) -> bool {
+    edition.knows_footer() && flag(header, 5)
+}
+
+/// The rules, Layout: what lies below E, which is the length, less 48 if there is a footer.
+fn body<'a>(image: &'a [u8], edition: Edition, header: &Header) -> &'a [u8] {
     let length = image.len() as u64;
-    let end = if flag(header, 5) { length.saturating_sub(FOOTER) } else { length };
+    let end = if has_footer(edition, header) { length.saturating_sub(FOOTER) } else { length };
     stretch(image, 0, end).unwrap_or_default()
 }
 
@@ -124,9 +125,9 @@ fn signed64(bytes: &[u8], place: u64) -> Option<i64> {
 }
 
 /// The rules, refusals 1 to 6, in this order; 4 is for 0 revolutions, or for read/write with more than one.
-fn parse_header(image: &[u8]) -> Result<Header, Refusal> {
+fn parse_header(image: &[u8], edition: Edition) -> Result<Header, Refusal> {
     let length = image.len() as u64;
-    if !(FIRST..=GREATEST).contains(&length) {
+    if !(edition.table_end()..=GREATEST).contains(&length) {
         return Err(refuse(1));
     }
     if !image.starts_with(b"SCP") {
@@ -139,7 +140,7 @@ fn parse_header(image: &[u8]) -> Result<Header, Refusal> {
     if header.revolutions == 0 || (flag(&header, 4) && header.revolutions > 1) {
         return Err(refuse(4));
     }
-    if header.start > header.end || u32::from(header.end) >= TRACKS {
+    if header.start > header.end || u32::from(header.end) >= edition.entries() {
         return Err(refuse(5));
     }
     if header.heads > 2 {
@@ -164,12 +165,12 @@ fn read_header(image: &[u8]) -> Option<Header> {
 }
 
 /// The rules, refusal 7: flagged, and length below 736, no "FPCS", or byte 0x2B below 0x16.
-fn parse_footer(image: &[u8], header: &Header) -> Result<Option<Footer>, Refusal> {
-    if !flag(header, 5) {
+fn parse_footer(image: &[u8], edition: Edition, header: &Header) -> Result<Option<Footer>, Refusal> {
+    if !has_footer(edition, header) {
         return Ok(None);
     }
     let length = image.len() as u64;
-    if length < FIRST + FOOTER {
+    if length < edition.table_end() + FOOTER {
         return Err(refuse(7));
     }
     let last = stretch(image, length - FOOTER, FOOTER).ok_or(refuse(7))?;
@@ -202,31 +203,31 @@ fn read_footer(last: &[u8]) -> Option<Footer> {
 }
 
 /// The rules, refusal 8: the present strings; the first faulty one is the position.
-fn parse_strings(body: &[u8], footer: &Footer) -> Result<Vec<Text>, Refusal> {
+fn parse_strings(body: &[u8], edition: Edition, footer: &Footer) -> Result<Vec<Text>, Refusal> {
     let mut strings = Vec::new();
     for (index, &offset) in (0..).zip(&footer.offsets) {
         if offset != 0 {
-            strings.push(parse_string(body, u64::from(offset)).ok_or(refuse_at(8, index))?);
+            strings.push(parse_string(body, edition, u64::from(offset)).ok_or(refuse_at(8, index))?);
         }
     }
     Ok(strings)
 }
 
 /// The rules, Layout: a 16-bit length, that many bytes of which none is zero, and a zero byte.
-fn parse_string(body: &[u8], place: u64) -> Option<Text> {
+fn parse_string(body: &[u8], edition: Edition, place: u64) -> Option<Text> {
     let length = u64::from(number16(body, place)?);
     let bytes = stretch(body, place + 2, length)?;
     let closing = byte(body, place + 2 + length)?;
-    if place < FIRST || bytes.contains(&0) || closing != 0 {
+    if place < edition.table_end() || bytes.contains(&0) || closing != 0 {
         return None;
     }
     Some(Text { place, bytes: bytes.to_vec() })
 }
 
 /// The rules, Numbers of refusal: tracks from index 0 up, each with 9, then 10, then 11.
-fn parse_tracks(image: &[u8], body: &[u8], header: &Header) -> Result<BTreeMap<u32, TrackData>, Refusal> {
+fn parse_tracks(image: &[u8], edition: Edition, body: &[u8], header: &Header) -> Result<BTreeMap<u32, TrackData>, Refusal> {
     let mut tracks = BTreeMap::new();
-    for index in 0..TRACKS {
+    for index in 0..edition.entries() {
         let entry = number32(image, 0x10 + 4 * u64::from(index)).ok_or(refuse(1))?;
         if entry == 0 {
             continue;
@@ -234,7 +235,7 @@ fn parse_tracks(image: &[u8], body: &[u8], header: &Header) -> Result<BTreeMap<u
         if !may_hold(header, index) {
             return Err(refuse_at(9, u64::from(index)));
         }
-        let data = parse_track(body, header, index, u64::from(entry));
+        let data = parse_track(body, edition, header, index, u64::from(entry));
         let data = data.ok_or(refuse_at(10, u64::from(index)))?;
         if !data.revolutions.iter().all(|one| flux_lies(body, one)) {
             return Err(refuse_at(11, u64::from(index)));
@@ -257,11 +258,11 @@ fn may_hold(header: &Header, index: u32) -> bool {
 }
 
 /// The rules, refusal 10: the track data header lies well, has "TRK" and its own number.
-fn parse_track(body: &[u8], header: &Header, index: u32, place: u64) -> Option<TrackData> {
+fn parse_track(body: &[u8], edition: Edition, header: &Header, index: u32, place: u64) -> Option<TrackData> {
     let length = 4 + 12 * u64::from(header.revolutions);
     let taken = stretch(body, place, length)?;
     let number = u32::from(byte(taken, 3)?);
-    if place < FIRST || !taken.starts_with(b"TRK") || number != index {
+    if place < edition.table_end() || !taken.starts_with(b"TRK") || number != index {
         return None;
     }
     let mut revolutions = Vec::new();

@@ -1,11 +1,13 @@
 //! A plain reader for SuperCard Pro (SCP) flux images.
 //!
 //! An image is first parsed into owned structures; every question is then answered from these.
-//! "The rules" in the comments are the paper of exact rules for this format, with request Q-2: 1 to 255 revolutions.
+//! "The rules" in the comments are the paper of exact rules for this format, with two requests: Q-2, 1 to 255 revolutions, and
+//! Q-6, images of revision 1.4 beside those of 1.6.
 
 #![forbid(unsafe_code)]
 
 mod answers;
+mod edition;
 mod flux;
 mod image;
 mod questions;
@@ -13,6 +15,7 @@ mod replay;
 mod rewrite;
 
 pub use answers::{Footer, Header, Refusal, Revolution, Step, Track};
+pub use edition::Edition;
 pub use flux::{intervals, step, words};
 pub use questions::{flux, footer, header, revolution, speed, track, track_speed, validate};
 pub use replay::replay;

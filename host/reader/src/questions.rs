@@ -1,11 +1,12 @@
 //! Judging an image, and the questions about it.
 
 use crate::answers::{refuse, Footer, Header, Refusal, Revolution, Track};
+use crate::edition::Edition;
 use crate::image::{stretch, true_sum, Image};
 
 /// The rules, Numbers of refusal: judging uses 1 to 11, then 12.
-pub fn validate(image: &[u8]) -> Result<(), Refusal> {
-    let parsed = Image::parse(image)?;
+pub fn validate(image: &[u8], edition: Edition) -> Result<(), Refusal> {
+    let parsed = Image::parse(image, edition)?;
     let due = if parsed.read_write() { 0 } else { true_sum(image) % (1 << 32) };
     if u64::from(parsed.header.checksum) != due {
         return Err(refuse(12));
@@ -14,43 +15,43 @@ pub fn validate(image: &[u8]) -> Result<(), Refusal> {
 }
 
 /// The question for the header; it uses 1 to 11.
-pub fn header(image: &[u8]) -> Result<Header, Refusal> {
-    Ok(Image::parse(image)?.header)
+pub fn header(image: &[u8], edition: Edition) -> Result<Header, Refusal> {
+    Ok(Image::parse(image, edition)?.header)
 }
 
 /// The question for the footer, or the plain fact that there is none; it uses 1 to 11.
-pub fn footer(image: &[u8]) -> Result<Option<Footer>, Refusal> {
-    Ok(Image::parse(image)?.footer)
+pub fn footer(image: &[u8], edition: Edition) -> Result<Option<Footer>, Refusal> {
+    Ok(Image::parse(image, edition)?.footer)
 }
 
 /// The question for a track; it uses 1 to 11, then 13.
-pub fn track(image: &[u8], track: u32) -> Result<Track, Refusal> {
-    let parsed = Image::parse(image)?;
+pub fn track(image: &[u8], edition: Edition, track: u32) -> Result<Track, Refusal> {
+    let parsed = Image::parse(image, edition)?;
     let data = parsed.track(track)?;
     Ok(Track { cylinder: track / 2, head: track % 2, place: data.place, revolutions: u32::from(parsed.header.revolutions) })
 }
 
 /// The question for a revolution; it uses 1 to 11, then 13, then 14.
-pub fn revolution(image: &[u8], track: u32, revolution: u32) -> Result<Revolution, Refusal> {
-    Image::parse(image)?.track(track)?.revolution(revolution)
+pub fn revolution(image: &[u8], edition: Edition, track: u32, revolution: u32) -> Result<Revolution, Refusal> {
+    Image::parse(image, edition)?.track(track)?.revolution(revolution)
 }
 
 /// The question for a revolution's flux: its part of the image, refused as the revolution is.
-pub fn flux(image: &[u8], track: u32, revolution: u32) -> Result<Vec<u8>, Refusal> {
-    let found = self::revolution(image, track, revolution)?;
+pub fn flux(image: &[u8], edition: Edition, track: u32, revolution: u32) -> Result<Vec<u8>, Refusal> {
+    let found = self::revolution(image, edition, track, revolution)?;
     let part = stretch(image, found.place, 2 * u64::from(found.words));
     Ok(part.unwrap_or_default().to_vec())
 }
 
 /// The question for a revolution's speed, none for duration 0; refused as the revolution is.
-pub fn speed(image: &[u8], track: u32, revolution: u32) -> Result<Option<f64>, Refusal> {
-    let found = self::revolution(image, track, revolution)?;
+pub fn speed(image: &[u8], edition: Edition, track: u32, revolution: u32) -> Result<Option<f64>, Refusal> {
+    let found = self::revolution(image, edition, track, revolution)?;
     Ok((found.duration != 0).then(|| rpm(found.duration)))
 }
 
 /// The slowest and fastest speed, from the longest and the shortest nonzero duration of a track.
-pub fn track_speed(image: &[u8], track: u32) -> Result<Option<(f64, f64)>, Refusal> {
-    let parsed = Image::parse(image)?;
+pub fn track_speed(image: &[u8], edition: Edition, track: u32) -> Result<Option<(f64, f64)>, Refusal> {
+    let parsed = Image::parse(image, edition)?;
     let data = parsed.track(track)?;
     let durations = || {
         let all = data.revolutions.iter().map(|one| one.duration);

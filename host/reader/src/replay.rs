@@ -1,11 +1,12 @@
 //! A sequence of calls on one image, each given as a row of numbers and answered by one.
 
 use crate::answers::{refuse, Footer, Header, Refusal, Revolution, Track};
+use crate::edition::Edition;
 use crate::questions;
 use crate::rewrite::rewrite;
 
-/// A call: kind, track, revolution, duration, and start and length of its words.
-const CALL: usize = 6;
+/// A call: kind, track, revolution, duration, start and length of its words, and edition.
+const CALL: usize = 7;
 
 /// An answer: refusal number, position, the values, then zeros.
 const ANSWER: usize = 16;
@@ -17,14 +18,22 @@ pub fn replay(image: &mut [u8], calls: &[u64], words: &[u8], answers: &mut [u64]
     }
     let rows = calls.chunks_exact(CALL);
     for (call, answer) in rows.zip(answers.chunks_exact_mut(ANSWER)) {
-        if let &[kind, track, revolution, duration, start, length] = call {
+        if let &[kind, track, revolution, duration, start, length, edition] = call {
             let part = cut(words, start, length);
             let named = (limit(track), limit(revolution));
-            let found = answer_to(image, kind, named, duration as u32, part);
+            let found = answer_to(image, edition_of(edition), kind, named, duration as u32, part);
             fill(answer, found);
         }
     }
     Ok(())
+}
+
+/// The rules, Q-6: 14 names revision 1.4, every other number 1.6.
+fn edition_of(number: u64) -> Edition {
+    match number {
+        14 => Edition::V1_4,
+        _ => Edition::V1_6,
+    }
 }
 
 /// A track or revolution above 4,294,967,295 counts as that.
@@ -41,17 +50,24 @@ fn cut(words: &[u8], start: u64, length: u64) -> &[u8] {
 }
 
 /// The values that answer a call, or its refusal; a kind that is not known is a validation.
-fn answer_to(image: &mut [u8], kind: u64, (track, revolution): (u32, u32), duration: u32, words: &[u8]) -> Result<Vec<u64>, Refusal> {
+fn answer_to(
+    image: &mut [u8],
+    edition: Edition,
+    kind: u64,
+    (track, revolution): (u32, u32),
+    duration: u32,
+    words: &[u8],
+) -> Result<Vec<u64>, Refusal> {
     match kind {
-        1 => questions::header(image).map(header_values),
-        2 => questions::footer(image).map(footer_values),
-        3 => questions::track(image, track).map(track_values),
-        4 => questions::revolution(image, track, revolution).map(revolution_values),
-        5 => flux_values(image, track, revolution),
-        6 => questions::speed(image, track, revolution).map(speed_values),
-        7 => questions::track_speed(image, track).map(track_speed_values),
-        8 => rewrite(image, track, revolution, duration, words).map(|()| Vec::new()),
-        _ => questions::validate(image).map(|()| Vec::new()),
+        1 => questions::header(image, edition).map(header_values),
+        2 => questions::footer(image, edition).map(footer_values),
+        3 => questions::track(image, edition, track).map(track_values),
+        4 => questions::revolution(image, edition, track, revolution).map(revolution_values),
+        5 => flux_values(image, edition, track, revolution),
+        6 => questions::speed(image, edition, track, revolution).map(speed_values),
+        7 => questions::track_speed(image, edition, track).map(track_speed_values),
+        8 => rewrite(image, edition, track, revolution, duration, words).map(|()| Vec::new()),
+        _ => questions::validate(image, edition).map(|()| Vec::new()),
     }
 }
 
@@ -105,9 +121,9 @@ fn revolution_values(revolution: Revolution) -> Vec<u64> {
 }
 
 /// File offset of the flux, how many bytes it has, and their sum modulo 2^32.
-fn flux_values(image: &[u8], track: u32, revolution: u32) -> Result<Vec<u64>, Refusal> {
-    let found = questions::revolution(image, track, revolution)?;
-    let flux = questions::flux(image, track, revolution)?;
+fn flux_values(image: &[u8], edition: Edition, track: u32, revolution: u32) -> Result<Vec<u64>, Refusal> {
+    let found = questions::revolution(image, edition, track, revolution)?;
+    let flux = questions::flux(image, edition, track, revolution)?;
     let sum: u64 = flux.iter().map(|&byte| u64::from(byte)).sum();
     Ok(vec![found.place, flux.len() as u64, sum % (1 << 32)])
 }

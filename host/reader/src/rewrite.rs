@@ -1,8 +1,9 @@
 //! Rewriting of one revolution.
 
 use crate::answers::{refuse, Refusal, Revolution};
+use crate::edition::Edition;
 use crate::flux;
-use crate::image::{range, true_sum, Image, FIRST, FOOTER};
+use crate::image::{range, true_sum, Image, FOOTER};
 
 /// A set of bytes of the image: a mark for each of them.
 struct Bytes {
@@ -39,8 +40,8 @@ struct Target {
 }
 
 /// The rules, Rewriting: 1 to 11, 13, 14, 17, 18; then duration, count, words and checksum.
-pub fn rewrite(image: &mut [u8], track: u32, revolution: u32, duration: u32, words: &[u8]) -> Result<(), Refusal> {
-    let parsed = Image::parse(image)?;
+pub fn rewrite(image: &mut [u8], edition: Edition, track: u32, revolution: u32, duration: u32, words: &[u8]) -> Result<(), Refusal> {
+    let parsed = Image::parse(image, edition)?;
     let target = find(&parsed, track, revolution)?;
     flux::check(words)?;
     let count = words.len() as u64 / 2;
@@ -79,10 +80,10 @@ fn shared(image: &[u8], parsed: &Image, target: &Target) -> bool {
     fields.meets(&others) || flux.meets(&others) || fields.meets(&flux)
 }
 
-/// The rules, Rewriting: all bytes that are claimed by others.
+/// The rules, Rewriting and Q-6: all bytes that are claimed by others, by the edition that the rewrite names.
 fn claimed_by_others(image: &[u8], parsed: &Image, target: &Target) -> Bytes {
     let mut claimed = Bytes::none(image);
-    claimed.add(0, FIRST);
+    claimed.add(0, parsed.edition.table_end());
     for (&number, data) in &parsed.tracks {
         let length = 4 + 12 * data.revolutions.len() as u64;
         if number == target.track {
