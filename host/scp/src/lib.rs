@@ -279,13 +279,6 @@ pub fn words(times: &[u64], words: &mut [u8]) -> Result<usize, Refusal> {
 /// assert_eq!(scp::header(&old, Edition::V1_4)?.checksum, 877);
 /// # Ok::<(), scp::Refusal>(())
 /// ```
-pub fn rewrite(
-    image: &mut [u8],
-    edition: Edition,
-    track: u32,
-    revolution: u32,
-    duration: u32,
-    words: &[u8],
-) -> Result<(), Refusal> {
+pub fn rewrite(image: &mut [u8], edition: Edition, track: u32, revolution: u32, duration: u32, words: &[u8]) -> Result<(), Refusal> {
     Refusal::of_code(raw::rewrite(image, edition.number(), track, revolution, duration, words))
 }

@@ -9,7 +9,15 @@ mod archive {
         pub fn scp_header(image: *const u8, size: usize, edition: u32, out: *mut u64, places: usize) -> u64;
         pub fn scp_footer(image: *const u8, size: usize, edition: u32, out: *mut u64, places: usize) -> u64;
         pub fn scp_track(image: *const u8, size: usize, edition: u32, track: u32, out: *mut u64, places: usize) -> u64;
-        pub fn scp_revolution(image: *const u8, size: usize, edition: u32, track: u32, revolution: u32, out: *mut u64, places: usize) -> u64;
+        pub fn scp_revolution(
+            image: *const u8,
+            size: usize,
+            edition: u32,
+            track: u32,
+            revolution: u32,
+            out: *mut u64,
+            places: usize,
+        ) -> u64;
         pub fn scp_flux(image: *const u8, size: usize, edition: u32, track: u32, revolution: u32, out: *mut u8, places: usize) -> u64;
         pub fn scp_speed(image: *const u8, size: usize, edition: u32, track: u32, revolution: u32, out: *mut f64, places: usize) -> u64;
         pub fn scp_track_speed(image: *const u8, size: usize, edition: u32, track: u32, out: *mut f64, places: usize) -> u64;

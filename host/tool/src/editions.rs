@@ -29,3 +29,29 @@ impl Rules for Edition {
         accepted.then(|| format!("it is valid as revision {other}: try --edition {other}"))
     }
 }
+
+#[cfg(test)]
+mod tests {
+    use super::*;
+    use scp_compare::cases::case;
+
+    #[test]
+    fn the_other_edition_is_named_just_where_it_accepts_what_it_looks_at() {
+        let mut hints = [0; 2];
+        for number in 0..60_000 {
+            let bytes = case(11, number).bytes;
+            for (edition, hints) in Edition::ALL.into_iter().zip(&mut hints) {
+                let Err(refusal) = scp::validate(&bytes, edition) else { continue };
+                // What can refuse an image by this edition alone, but for the footer.
+                let alone: &[u8] = match edition {
+                    Edition::V1_4 => &[5],
+                    Edition::V1_6 => &[1, 9, 10, 11],
+                };
+                let due = alone.contains(&refusal.reason.number()) && scp::validate(&bytes, edition.other()).is_ok();
+                assert_eq!(edition.hint(&bytes, refusal).is_some(), due, "case {number} by {edition}: {refusal}");
+                *hints += u32::from(due);
+            }
+        }
+        assert!(hints.iter().all(|&hints| hints > 0), "an edition is never named: {hints:?}");
+    }
+}

@@ -16,8 +16,13 @@ use crate::reasons::{self, Asked};
 use crate::undo::{kept, Change};
 
 /// The command.
-pub const COMMAND: Command =
-    Command { name: "replay", flags: &["--force", "--in-place"], values: &["--edition", "--out"], help: include_str!("help/replay.txt"), run };
+pub const COMMAND: Command = Command {
+    name: "replay",
+    flags: &["--force", "--in-place"],
+    values: &["--edition", "--out"],
+    help: include_str!("help/replay.txt"),
+    run,
+};
 
 /// A line of a file of calls.
 enum Line {

@@ -173,11 +173,7 @@ fn accepted_by_the_other() -> Vec<(Vec<u8>, Edition, &'static str)> {
         (behind(&[0, 0, 0, 0, 0, 0, 0, 1]), Edition::V1_6, "9 Slot: track 167 has an entry, but the tracks are 0 to 0"),
         (image_by(Edition::V1_4, 0, &[(0, track_0), (9, track_0)]), Edition::V1_6, "10 Track: track 0: its header at 680 is below 688"),
         (image_by(Edition::V1_4, 0, &[(165, track_0)]), Edition::V1_6, "10 Track: track 165: its header at 680 is below 688"),
-        (
-            changed(footed(), 696, &[7]),
-            Edition::V1_6,
-            "11 Flux: track 0, revolution 0: 2 x 7 bytes at 704 end at 718, past 717",
-        ),
+        (changed(footed(), 696, &[7]), Edition::V1_6, "11 Flux: track 0, revolution 0: 2 x 7 bytes at 704 end at 718, past 717"),
     ]
 }
 
@@ -218,7 +214,11 @@ fn without_hint() -> Vec<(Vec<u8>, Edition, &'static str)> {
         (old(7, &[166]), Edition::V1_4, "5 Span: the end track 166 is above 165"),
         (both_wrong, Edition::V1_4, "5 Span: the end track 167 is above 165"),
         (old(10, &[3]), Edition::V1_4, "6 Heads: byte 0x0A is 3, not 0, 1 or 2"),
-        (changed(scp::example::image_a(), 8, &[0x21]), Edition::V1_6, "7 Footer: FLAGS 0x21 announces one, but 712 bytes are fewer than 736"),
+        (
+            changed(scp::example::image_a(), 8, &[0x21]),
+            Edition::V1_6,
+            "7 Footer: FLAGS 0x21 announces one, but 712 bytes are fewer than 736",
+        ),
         (old(8, &[0x21]), Edition::V1_6, "7 Footer: FLAGS 0x21 announces one, but 704 bytes are fewer than 736"),
         (changed(footed(), 714, &[0]), Edition::V1_6, "8 String: maker: the byte at 714, within its 2 bytes, is 0"),
         (old(16, &[0xA7]), Edition::V1_4, "10 Track: track 0: its header at 679 is below 680"),
@@ -298,7 +298,8 @@ fn a_patch_by_revision_1_4_is_taken_back_without_naming_it_again() {
     let first = scp::example::image_a_1_4();
     let patch = "patch old.scp out.scp 0 0 --duration 5 --words words.bin";
     bench.passes(&format!("{patch} --undo undo.txt --edition 1.4"));
-    let text = "# takes back \"fluxproof patch\": track 0 revolution 0 of old.scp, rewritten in out.scp, duration 8000000 -> 5, words 4 -> 4\n\
+    let text =
+        "# takes back \"fluxproof patch\": track 0 revolution 0 of old.scp, rewritten in out.scp, duration 8000000 -> 5, words 4 -> 4\n\
                 edition 1.4\n\
                 rewrite 0 0 8000000 00A0 0000 0001 00F0\n";
     assert_eq!(String::from_utf8(bench.get("undo.txt")).expect("UTF-8"), text);
@@ -316,7 +317,9 @@ fn a_patch_by_revision_1_4_is_taken_back_without_naming_it_again() {
 fn only_revision_1_4_is_named_by_an_undo_file() {
     let bench = bench();
     bench.put("short.bin", &[1, 2]);
-    for (edition, lines) in [("1.6", ["# takes back ", "rewrite 0 0 "].as_slice()), ("1.4", &["# takes back ", "edition 1.4", "rewrite 0 0 "])] {
+    for (edition, lines) in
+        [("1.6", ["# takes back ", "rewrite 0 0 "].as_slice()), ("1.4", &["# takes back ", "edition 1.4", "rewrite 0 0 "])]
+    {
         bench.passes(&format!("patch a.scp {edition}.scp 0 0 --duration 5 --words words.bin --undo {edition}.txt --edition {edition}"));
         let undo = String::from_utf8(bench.get(&format!("{edition}.txt"))).expect("UTF-8");
         assert!(undo.lines().count() == lines.len() && undo.lines().zip(lines).all(|(line, start)| line.starts_with(*start)), "{undo}");
