@@ -32,6 +32,16 @@ enum Line {
     Call(Edition, Call),
 }
 
+impl Line {
+    /// The call and its edition, if it is one.
+    fn call(&self) -> Option<(Edition, &Call)> {
+        match self {
+            Line::Edition(_) => None,
+            Line::Call(edition, call) => Some((*edition, call)),
+        }
+    }
+}
+
 /// What became of the calls.
 #[derive(Default)]
 struct Outcome {
@@ -78,16 +88,6 @@ fn run(arguments: &Arguments, out: &mut dyn Write) -> Result<(), Failure> {
     match outcome.refused {
         true => Err(Failure::Said(Status::Refused)),
         false => Ok(()),
-    }
-}
-
-impl Line {
-    /// The call and its edition, if it is one.
-    fn call(&self) -> Option<(Edition, &Call)> {
-        match self {
-            Line::Edition(_) => None,
-            Line::Call(edition, call) => Some((*edition, call)),
-        }
     }
 }
 

@@ -261,6 +261,25 @@ fn a_track_above_the_last_of_the_edition_is_absent() {
 }
 
 #[test]
+fn revolutions_and_read_write_are_the_same_by_both() {
+    let bench = bench();
+    let revolutions = vec![(7, &[5, 0][..]); 255];
+    bench.put("word.bin", &[0, 9]);
+    for edition in Edition::ALL {
+        bench.put("r.scp", &image_by(edition, 0, &[(165, &revolutions)]));
+        let listed = bench.passes(&format!("list r.scp --edition {edition}"));
+        assert!(listed.ends_with("\ntrack 165 turn 254 ticks 7 words 2 intervals 1 open 65536\n"), "{listed}");
+        assert_eq!(bench.passes(&format!("read r.scp 165 254 --edition {edition}")), "5\nopen 65536\n");
+        bench.put("w.scp", &image_by(edition, 0x10, &[(0, &revolutions[..1])]));
+        let out = bench.passes(&format!("patch w.scp x.scp 0 0 --duration keep --words word.bin --force --edition {edition}"));
+        assert!(out.ends_with("\nchecksum 0 -> 0\n"), "{out}");
+        bench.put("w.scp", &image_by(edition, 0x10, &[(0, &revolutions[..2])]));
+        let said = "w.scp: refused 4 Revolutions: byte 0x05 is 2, but a read/write image (FLAGS bit 4) has 1\n";
+        assert_eq!(bench.refuses(&format!("validate w.scp --edition {edition}")), said);
+    }
+}
+
+#[test]
 fn a_footer_is_shown_by_revision_1_6_alone() {
     let bench = bench();
     bench.put("f.scp", &footed());
