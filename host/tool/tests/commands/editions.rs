@@ -382,6 +382,31 @@ fn a_line_names_the_edition_of_the_calls_after_it() {
 }
 
 #[test]
+fn a_refused_call_is_told_by_its_edition() {
+    let bench = bench();
+    // The flux of the second revolution starts two bytes early, at 710.
+    let tracks = image_by(Edition::V1_4, 0, &[(0, &[(1, &[5, 6]), (2, &[7, 8])])]);
+    bench.put("s.scp", &changed(tracks, 680 + 4 + 12 + 8, &[30]));
+    bench
+        .put("calls.txt", b"edition 1.4\ntrack 166\nspeed 0 2\nrewrite 0 0 1 0001 0002 0003\nrewrite 0 0 1 0001\nedition 1.6\ntrack 168\n");
+    let (shared, low) = ("byte 710 is of its present flux and of the flux of track 0, revolution 1", "its header at 680 is below 688");
+    let due = [
+        "1: edition 1.4",
+        "2: track 166: refused 13 Absent: track 166 is above 165",
+        "3: speed 0 2: refused 14 Revolution: revolution 2 of track 0: a track has 2 revolutions, from 0 on",
+        "4: rewrite 0 0 1 (6 bytes): refused 17 Words: 3 words, where the revolution has 2",
+        &format!("5: rewrite 0 0 1 (2 bytes): refused 18 Shared: {shared}"),
+        "6: edition 1.6",
+        &format!("7: track 168: refused 10 Track: track 0: {low}{}", hint(Edition::V1_4)),
+    ];
+    assert_eq!(bench.refuses("replay s.scp calls.txt").lines().collect::<Vec<_>>(), due);
+    let patch = "patch s.scp out.scp 0 0 --duration keep --words words.bin --edition 1.4";
+    bench.fails(patch, 1, "words.bin: refused 17 Words: 4 words, where the revolution has 2\n");
+    bench.put("words.bin", &[0, 1]);
+    bench.fails(patch, 1, &format!("s.scp: refused 18 Shared: {shared}\n"));
+}
+
+#[test]
 fn a_line_that_names_no_edition_stops_everything() {
     let bench = bench();
     for (line, message) in [
