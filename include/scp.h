@@ -1,4 +1,4 @@
-/* SuperCard Pro (SCP) floppy flux images, revision 1.6: the proved library as C functions.
+/* SuperCard Pro (SCP) floppy flux images, revisions 1.4 and 1.6: the proved library as C functions.
  *
  * Link with libscp_c.a, which `rt staticlib scp_c` proves and builds (x86-64). C99 and C++.
  *
@@ -10,7 +10,13 @@
  * An array passes as a pointer and the number of its elements. A pointer is never null and is aligned for its type, even where the
  * number is 0. The arrays of one call do not overlap, unless the call writes none of them; nobody else writes them meanwhile.
  *
- * A tick is 25 ns. A track is a number from 0 to 167, a revolution a number from 0 to 254; any other number has its refusal. */
+ * An edition is the revision of the text that an image is read by. No byte of an image says it, so the caller names it in every call
+ * on one: 14 is revision 1.4, every other number 1.6 (enum scp_edition). By 1.6 the table has 168 entries and ends at 688, and FLAGS
+ * bit 5 announces a footer. By 1.4 the table has 166 entries and ends at 680, and FLAGS bit 5 means nothing: there is no footer, and
+ * the bytes that would be one are like any others. All else is the same.
+ *
+ * A tick is 25 ns. A track is a number from 0 to 167 (by 1.4: 165), a revolution a number from 0 to 254; any other number has its
+ * refusal. */
 #ifndef SCP_H
 #define SCP_H
 
@@ -21,18 +27,24 @@
 extern "C" {
 #endif
 
+/* The editions. Every other number is SCP_EDITION_1_6, too. */
+enum scp_edition {
+    SCP_EDITION_1_4 = 14,
+    SCP_EDITION_1_6 = 16
+};
+
 /* The numbers of refusal. Positions other than 0: the string (0 to 5) for SCP_STRING, the track for SCP_SLOT, SCP_TRACK and SCP_FLUX,
  * the index of the time for SCP_TIME. */
 enum scp_refusal {
     SCP_ACCEPTED = 0,     /* no refusal */
-    SCP_SIZE = 1,         /* length below 688 or above 268,435,456 */
+    SCP_SIZE = 1,         /* length below 688 (by 1.4: 680) or above 268,435,456 */
     SCP_SIGN = 2,         /* not "SCP" */
     SCP_WIDTH = 3,        /* word width not 0 or 16 */
     SCP_REVOLUTIONS = 4,  /* 0 revolutions, or more than 1 on a read/write image */
-    SCP_SPAN = 5,         /* start track above end track, or end track above 167 */
+    SCP_SPAN = 5,         /* start track above end track, or end track above 167 (by 1.4: 165) */
     SCP_HEADS = 6,        /* heads byte above 2 */
-    SCP_FOOTER = 7,       /* footer flagged, and too short, without "FPCS" or older than 0x16 */
-    SCP_STRING = 8,       /* a present string is misplaced or malformed */
+    SCP_FOOTER = 7,       /* by 1.6 alone: footer flagged, and too short, without "FPCS" or older than 0x16 */
+    SCP_STRING = 8,       /* by 1.6 alone: a present string is misplaced or malformed */
     SCP_SLOT = 9,         /* a track outside start to end, or on a side not held */
     SCP_TRACK = 10,       /* a track data header misplaced, without "TRK" or with another number */
     SCP_FLUX = 11,        /* a revolution's flux does not end in the image, before the footer */
@@ -52,36 +64,40 @@ static inline unsigned scp_refusal_number(uint64_t code) { return (unsigned)(cod
 static inline uint64_t scp_refusal_position(uint64_t code) { return code / 256; }
 
 /* Validates the image: refusals 1 to 12.
- * Accepts exactly what obeys the text. */
-uint64_t scp_validate(const uint8_t *image, size_t size);
+ * Accepts exactly what obeys the edition's text. */
+uint64_t scp_validate(const uint8_t *image, size_t size, uint32_t edition);
 
 /* The header to out, 9 numbers: version, disk type, revolutions, start, end, flags, width, heads, checksum.
  * Refusals 1 to 11, 15. */
-uint64_t scp_header(const uint8_t *image, size_t size, uint64_t *out, size_t places);
+uint64_t scp_header(const uint8_t *image, size_t size, uint32_t edition, uint64_t *out, size_t places);
 
 /* The footer to out, 13 numbers: 1, the offsets of maker, model, serial, creator, application and comments (0: absent), created and
- * modified (seconds from 1970, two's complement), software, hardware, firmware, format; 13 zeros where there is none. 1 to 11, 15. */
-uint64_t scp_footer(const uint8_t *image, size_t size, uint64_t *out, size_t places);
+ * modified (seconds from 1970, two's complement), software, hardware, firmware, format; 13 zeros where there is none, as always by
+ * 1.4. Refusals 1 to 11, 15. */
+uint64_t scp_footer(const uint8_t *image, size_t size, uint32_t edition, uint64_t *out, size_t places);
 
 /* A track to out, 4 numbers: cylinder, head, file offset of its header, revolutions.
  * Refusals 1 to 11, 13, 15. */
-uint64_t scp_track(const uint8_t *image, size_t size, uint32_t track, uint64_t *out, size_t places);
+uint64_t scp_track(const uint8_t *image, size_t size, uint32_t edition, uint32_t track, uint64_t *out, size_t places);
 
 /* A revolution to out, 3 numbers: duration in ticks, words, file offset of its flux.
  * Refusals 1 to 11, 13, 14, 15. */
-uint64_t scp_revolution(const uint8_t *image, size_t size, uint32_t track, uint32_t revolution, uint64_t *out, size_t places);
+uint64_t scp_revolution(const uint8_t *image, size_t size, uint32_t edition, uint32_t track, uint32_t revolution, uint64_t *out,
+                        size_t places);
 
 /* The flux of a revolution to out, 2 bytes for each of its words.
  * Refusals 1 to 11, 13, 14, 15. */
-uint64_t scp_flux(const uint8_t *image, size_t size, uint32_t track, uint32_t revolution, uint8_t *out, size_t places);
+uint64_t scp_flux(const uint8_t *image, size_t size, uint32_t edition, uint32_t track, uint32_t revolution, uint8_t *out,
+                  size_t places);
 
 /* The speed of a revolution to out, 2 floats: 1.0 and the speed in rpm, or two zeros for duration 0.
  * Refusals 1 to 11, 13, 14, 15. */
-uint64_t scp_speed(const uint8_t *image, size_t size, uint32_t track, uint32_t revolution, double *out, size_t places);
+uint64_t scp_speed(const uint8_t *image, size_t size, uint32_t edition, uint32_t track, uint32_t revolution, double *out,
+                   size_t places);
 
 /* The speeds of a track to out, 3 floats: 1.0, slowest, fastest in rpm; or three zeros if all durations are 0.
  * Refusals 1 to 11, 13, 15. */
-uint64_t scp_track_speed(const uint8_t *image, size_t size, uint32_t track, double *out, size_t places);
+uint64_t scp_track_speed(const uint8_t *image, size_t size, uint32_t edition, uint32_t track, double *out, size_t places);
 
 /* The next interval of the flux from a word on, to out, 3 numbers: interval in ticks (0: no closing word is left), open ticks, the
  * number of the word to go on from. Refusals 17, 15. */
@@ -96,14 +112,14 @@ uint64_t scp_intervals(const uint8_t *flux, size_t size, uint64_t *times, size_t
 uint64_t scp_words(const uint64_t *times, size_t count, uint8_t *words, size_t size, uint64_t *out, size_t places);
 
 /* Puts a new duration and new words into a revolution, at most as many as it has; a read-only image's checksum moves by the change.
- * Refusals 1 to 11, 13, 14, 17, 18. */
-uint64_t scp_rewrite(uint8_t *image, size_t size, uint32_t track, uint32_t revolution, uint32_t duration, const uint8_t *words,
-                     size_t words_size);
+ * What claims a byte is meant by the edition. Refusals 1 to 11, 13, 14, 17, 18. */
+uint64_t scp_rewrite(uint8_t *image, size_t size, uint32_t edition, uint32_t track, uint32_t revolution, uint32_t duration,
+                     const uint8_t *words, size_t words_size);
 
-/* Runs calls on the image in order. A call is 6 numbers: kind, track, revolution, duration, start and length of its part of words;
- * kinds: 0 validate, 1 header, 2 footer, 3 track, 4 revolution, 5 flux, 6 speed, 7 track speed, 8 rewrite, any other as 0. An answer
- * is 16 numbers: refusal's number, position, the values as above (flux: its file offset, how many bytes, their sum modulo 2^32;
- * speeds: as bit patterns), zeros. Refusal 15 where answers has fewer than 16 places a call. */
+/* Runs calls on the image in order. A call is 7 numbers: kind, track, revolution, duration, start and length of its part of words,
+ * edition (14 is 1.4, any other 1.6). Kinds: 0 validate, 1 header, 2 footer, 3 track, 4 revolution, 5 flux, 6 speed, 7 track speed,
+ * 8 rewrite, any other as 0. An answer is 16 numbers: refusal's number, position, the values as above (flux: its file offset, how
+ * many bytes, their sum modulo 2^32; speeds: as bit patterns), zeros. Refusal 15 where answers has fewer than 16 places a call. */
 uint64_t scp_replay(uint8_t *image, size_t size, const uint64_t *calls, size_t call_numbers, const uint8_t *words, size_t words_size,
                     uint64_t *answers, size_t places);
 

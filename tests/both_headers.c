@@ -6,7 +6,7 @@
 
 int main(void) {
     static const uint8_t image[256] = {'M', 'V', ' ', '-', ' ', 'C', 'P', 'C'};
-    const uint64_t as_scp = scp_validate(image, sizeof image), as_dsk = dsk_validate(image, sizeof image);
+    const uint64_t as_scp = scp_validate(image, sizeof image, SCP_EDITION_1_6), as_dsk = dsk_validate(image, sizeof image);
     if (scp_refusal_number(as_scp) != SCP_SIZE || dsk_refusal_number(as_dsk) != DSK_REFUSED_GEOMETRY) {
         printf("tests/both_headers.c: refused %u and %u\n", scp_refusal_number(as_scp), dsk_refusal_number(as_dsk));
         return 1;

@@ -1,4 +1,5 @@
-/* Calls every function of the header, from C99 and from C++: on image A's flux, on image A, and with too few places. */
+/* Calls every function of the header, from C99 and from C++, by both editions: on image A's flux, on image A as each edition lays it out,
+ * and with too few places. */
 #include "scp.h"
 
 #include <stdio.h>
@@ -20,31 +21,46 @@ static void expect(int holds, int line) {
 }
 #define EXPECT(holds) expect((holds), __LINE__)
 
-static void make_image_a(uint8_t *image) {
-    memset(image, 0, 712);
-    memcpy(image, header_data, sizeof header_data);
-    image[0x0C] = 0xD4;
-    image[0x0D] = 0x03;
-    image[0x10] = 0xB0;
-    image[0x11] = 0x02;
-    memcpy(image + 0x2B0, track_data, sizeof track_data);
+/* Image A with its track data header directly behind the table of an edition. */
+struct sample {
+    uint32_t edition;
+    size_t table_end;
+    uint32_t sum;         /* of its bytes */
+    uint32_t changed_sum; /* of its bytes with the new words */
+    size_t size;
+    uint8_t image[712];
+};
+
+static void make(struct sample *a) {
+    a->size = a->table_end + sizeof track_data;
+    memset(a->image, 0, sizeof a->image);
+    memcpy(a->image, header_data, sizeof header_data);
+    a->image[0x0C] = (uint8_t)(a->sum % 256);
+    a->image[0x0D] = (uint8_t)(a->sum / 256);
+    a->image[0x10] = (uint8_t)(a->table_end % 256);
+    a->image[0x11] = (uint8_t)(a->table_end / 256);
+    memcpy(a->image + a->table_end, track_data, sizeof track_data);
 }
 
-static void ask(const uint8_t *image) {
+static void ask(const struct sample *a) {
+    const uint8_t *image = a->image;
+    const size_t size = a->size, offset = a->table_end + 16;
+    const uint32_t edition = a->edition;
     uint64_t out[13];
     double floats[3];
     uint8_t flux[8];
-    EXPECT(scp_validate(image, 712) == SCP_ACCEPTED);
-    EXPECT(scp_header(image, 712, out, 9) == 0 && out[0] == 0x16 && out[8] == 980);
-    EXPECT(scp_header(image, 712, out, 8) == SCP_PLACES);
-    EXPECT(scp_footer(image, 712, out, 13) == 0 && out[0] == 0 && out[12] == 0);
-    EXPECT(scp_track(image, 712, 0, out, 4) == 0 && out[2] == 0x2B0 && out[3] == 1);
-    EXPECT(scp_track(image, 712, 1, out, 4) == SCP_ABSENT);
-    EXPECT(scp_revolution(image, 712, 0, 0, out, 3) == 0 && out[0] == 8000000 && out[1] == 4 && out[2] == 704);
-    EXPECT(scp_revolution(image, 712, 0, 1, out, 3) == SCP_REVOLUTION);
-    EXPECT(scp_flux(image, 712, 0, 0, flux, 8) == 0 && memcmp(flux, image + 704, 8) == 0);
-    EXPECT(scp_speed(image, 712, 0, 0, floats, 2) == 0 && floats[0] == 1.0 && floats[1] == 300.0);
-    EXPECT(scp_track_speed(image, 712, 0, floats, 3) == 0 && floats[1] == 300.0 && floats[2] == 300.0);
+    EXPECT(scp_validate(image, size, edition) == SCP_ACCEPTED);
+    EXPECT(scp_validate(image, a->table_end - 1, edition) == SCP_SIZE);
+    EXPECT(scp_header(image, size, edition, out, 9) == 0 && out[0] == 0x16 && out[8] == a->sum);
+    EXPECT(scp_header(image, size, edition, out, 8) == SCP_PLACES);
+    EXPECT(scp_footer(image, size, edition, out, 13) == 0 && out[0] == 0 && out[12] == 0);
+    EXPECT(scp_track(image, size, edition, 0, out, 4) == 0 && out[2] == a->table_end && out[3] == 1);
+    EXPECT(scp_track(image, size, edition, 1, out, 4) == SCP_ABSENT);
+    EXPECT(scp_revolution(image, size, edition, 0, 0, out, 3) == 0 && out[0] == 8000000 && out[1] == 4 && out[2] == offset);
+    EXPECT(scp_revolution(image, size, edition, 0, 1, out, 3) == SCP_REVOLUTION);
+    EXPECT(scp_flux(image, size, edition, 0, 0, flux, 8) == 0 && memcmp(flux, image + offset, 8) == 0);
+    EXPECT(scp_speed(image, size, edition, 0, 0, floats, 2) == 0 && floats[0] == 1.0 && floats[1] == 300.0);
+    EXPECT(scp_track_speed(image, size, edition, 0, floats, 3) == 0 && floats[1] == 300.0 && floats[2] == 300.0);
 }
 
 static void convert(const uint8_t *flux) {
@@ -58,27 +74,74 @@ static void convert(const uint8_t *flux) {
     EXPECT(scp_refusal_position(scp_words(bad, 2, words, 8, out, 1)) == 1);
 }
 
-static void change(uint8_t *image) {
+static void change(struct sample *a) {
+    uint8_t *image = a->image;
+    const size_t size = a->size;
+    const uint32_t edition = a->edition;
     uint64_t out[9];
-    uint64_t calls[18] = {8, 0, 0, 8000000, 0, 8, 0, 0, 0, 0, 0, 0, 5, 0, 0, 0, 0, 0};
+    uint64_t calls[21] = {8, 0, 0, 8000000, 0, 8, edition, 0, 0, 0, 0, 0, 0, edition, 5, 0, 0, 0, 0, 0, edition};
     uint64_t answers[48];
-    EXPECT(scp_rewrite(image, 712, 0, 0, 8000000, new_words, 7) == SCP_WORDS);
-    EXPECT(scp_replay(image, 712, calls, 18, new_words, 8, answers, 47) == SCP_PLACES);
-    EXPECT(scp_replay(image, 712, calls, 18, new_words, 8, answers, 48) == 0 && answers[0] == 0 && answers[16] == 0);
-    EXPECT(answers[32] == 0 && answers[34] == 704 && answers[35] == 8 && answers[36] == 306);
-    EXPECT(scp_header(image, 712, out, 9) == 0 && out[8] == 885);
-    EXPECT(scp_rewrite(image, 712, 0, 0, 8000000, track_data + 16, 8) == 0);
-    EXPECT(scp_header(image, 712, out, 9) == 0 && out[8] == 980);
+    EXPECT(scp_rewrite(image, size, edition, 0, 0, 8000000, new_words, 7) == SCP_WORDS);
+    EXPECT(scp_replay(image, size, calls, 21, new_words, 8, answers, 47) == SCP_PLACES);
+    EXPECT(scp_replay(image, size, calls, 21, new_words, 8, answers, 48) == 0 && answers[0] == 0 && answers[16] == 0);
+    EXPECT(answers[32] == 0 && answers[34] == a->table_end + 16 && answers[35] == 8 && answers[36] == 306);
+    EXPECT(scp_header(image, size, edition, out, 9) == 0 && out[8] == a->changed_sum);
+    EXPECT(scp_rewrite(image, size, edition, 0, 0, 8000000, track_data + 16, 8) == 0);
+    EXPECT(scp_header(image, size, edition, out, 9) == 0 && out[8] == a->sum);
+}
+
+/* An image of revision 1.4 is refused by 1.6, since its track stands in that table: by every function, and by every number but 14. */
+static void ask_by_the_other(struct sample *old) {
+    uint8_t *image = old->image;
+    const size_t size = old->size;
+    const uint32_t others[5] = {SCP_EDITION_1_6, 0, 13, 15, UINT32_MAX};
+    uint64_t out[13];
+    double floats[3];
+    uint8_t flux[8];
+    for (int i = 0; i < 5; i++) {
+        const uint32_t edition = others[i];
+        uint64_t calls[14] = {0, 0, 0, 0, 0, 0, edition, 0, 0, 0, 0, 0, 0, SCP_EDITION_1_4};
+        uint64_t answers[32];
+        EXPECT(scp_validate(image, size, edition) == SCP_TRACK);
+        EXPECT(scp_header(image, size, edition, out, 9) == SCP_TRACK);
+        EXPECT(scp_footer(image, size, edition, out, 13) == SCP_TRACK);
+        EXPECT(scp_track(image, size, edition, 0, out, 4) == SCP_TRACK);
+        EXPECT(scp_revolution(image, size, edition, 0, 0, out, 3) == SCP_TRACK);
+        EXPECT(scp_flux(image, size, edition, 0, 0, flux, 8) == SCP_TRACK);
+        EXPECT(scp_speed(image, size, edition, 0, 0, floats, 2) == SCP_TRACK);
+        EXPECT(scp_track_speed(image, size, edition, 0, floats, 3) == SCP_TRACK);
+        EXPECT(scp_rewrite(image, size, edition, 0, 0, 8000000, new_words, 8) == SCP_TRACK);
+        EXPECT(scp_replay(image, size, calls, 14, new_words, 8, answers, 32) == 0);
+        EXPECT(answers[0] == SCP_TRACK && answers[16] == SCP_ACCEPTED);
+    }
+}
+
+/* Where only the edition decides: FLAGS bit 5, and an end track of 167. */
+static void decide(struct sample *a) {
+    uint64_t out[13];
+    a->image[0x08] |= 0x20;
+    EXPECT(scp_validate(a->image, a->size, SCP_EDITION_1_6) == SCP_FOOTER);
+    EXPECT(scp_validate(a->image, a->size, SCP_EDITION_1_4) == SCP_ACCEPTED);
+    EXPECT(scp_footer(a->image, a->size, SCP_EDITION_1_4, out, 13) == 0 && out[0] == 0 && out[12] == 0);
+    a->image[0x08] -= 0x20;
+    a->image[0x07] = 167;
+    EXPECT(scp_validate(a->image, a->size, SCP_EDITION_1_6) == SCP_ACCEPTED);
+    EXPECT(scp_validate(a->image, a->size, SCP_EDITION_1_4) == SCP_SPAN);
+    a->image[0x07] = 0;
 }
 
 int main(void) {
-    static uint8_t image[712];
-    make_image_a(image);
-    ask(image);
-    convert(image + 704);
-    change(image);
+    static struct sample samples[2] = {{SCP_EDITION_1_4, 0x2A8, 972, 877, 0, {0}}, {SCP_EDITION_1_6, 0x2B0, 980, 885, 0, {0}}};
+    for (int i = 0; i < 2; i++) {
+        make(&samples[i]);
+        ask(&samples[i]);
+        convert(samples[i].image + samples[i].table_end + 16);
+        change(&samples[i]);
+    }
+    ask_by_the_other(&samples[0]);
+    decide(&samples[1]);
     if (failures == 0) {
-        printf("include/scp.h: every function called, as expected\n");
+        printf("include/scp.h: every function called by both editions, as expected\n");
     }
     return failures != 0;
 }

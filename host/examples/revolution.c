@@ -1,7 +1,9 @@
-/* Prints a revolution of an SCP image: its duration, its words with their file offset, and its intervals in ticks.
+/* Prints a revolution of an SCP image: its duration, its words with their file offset, and its intervals in ticks. The image is read by
+ * revision 1.6, or by the one that is named.
  *
  *     cc -Iinclude host/examples/revolution.c target/staticlib/libscp_c.a -o revolution
- *     ./revolution crates/scp_test/data/a.scp 0 0 */
+ *     ./revolution crates/scp_test/data/a.scp 0 0
+ *     ./revolution OLD.scp 0 0 1.4 */
 #include "scp.h"
 
 #include <errno.h>
@@ -39,6 +41,13 @@ static uint32_t number(const char *text) {
     return (uint32_t)value;
 }
 
+/* The edition of a name. */
+static uint32_t edition_of(const char *name) {
+    if (strcmp(name, "1.4") == 0) return SCP_EDITION_1_4;
+    if (strcmp(name, "1.6") != 0) fail(name, "neither 1.4 nor 1.6");
+    return SCP_EDITION_1_6;
+}
+
 /* The bytes of a file; of one that is longer than an image may be, one byte more than that. */
 static uint8_t *contents(const char *name, size_t *size) {
     const size_t most = 268435456 + 1;
@@ -52,15 +61,15 @@ static uint8_t *contents(const char *name, size_t *size) {
 }
 
 int main(int count, char **words) {
-    if (count != 4) {
-        fprintf(stderr, "usage: revolution FILE TRACK REVOLUTION\n");
+    if (count != 4 && count != 5) {
+        fprintf(stderr, "usage: revolution FILE TRACK REVOLUTION [EDITION]\n");
         return 2;
     }
     size_t size;
     uint64_t found[3], filled[2];
-    uint32_t track = number(words[2]), revolution = number(words[3]);
+    uint32_t track = number(words[2]), revolution = number(words[3]), edition = edition_of(count == 5 ? words[4] : "1.6");
     uint8_t *image = contents(words[1], &size);
-    check(words[1], scp_revolution(image, size, track, revolution, found, 3));
+    check(words[1], scp_revolution(image, size, edition, track, revolution, found, 3));
 
     const uint8_t *flux = image + found[2]; /* 2 bytes for each word */
     uint64_t *times = (uint64_t *)room(found[1] * sizeof *times);

@@ -16,7 +16,7 @@ pub struct Header {
     pub start: u8,
     /// The last track, included.
     pub end: u8,
-    /// Bits: 0 index, 1 TPI, 2 RPM, 3 type, 4 read/write, 5 footer.
+    /// Bits: 0 index, 1 TPI, 2 RPM, 3 type, 4 read/write, 5 footer (revision 1.6 alone).
     pub flags: u8,
     /// The word width: 0 or 16, both for 16 bits.
     pub width: u8,

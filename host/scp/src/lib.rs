@@ -1,23 +1,38 @@
-//! SuperCard Pro (SCP) floppy flux images, revision 1.6, by the proved library.
+//! SuperCard Pro (SCP) floppy flux images, revisions 1.4 and 1.6, by the proved library.
 //!
-//! Every call on an image takes its bytes and opens it anew; it answers for every image and every argument. A [`Refusal`] has one of 18
-//! numbers and a position, and then every lent buffer holds what it held. Nothing here copies an image.
+//! Every call on an image takes its bytes and the [`Edition`] that it is read by, and opens it anew; it answers for every image and every
+//! argument. A [`Refusal`] has one of 18 numbers and a position, and then every lent buffer holds what it held. Nothing here copies an image.
 //!
 //! ```
-//! # let image = scp::example::image_a();
-//! scp::validate(&image)?;
-//! let revolution = scp::revolution(&image, 0, 0)?;
-//! assert_eq!((revolution.duration, revolution.words, revolution.offset), (8_000_000, 4, 704));
-//! assert_eq!(scp::speed(&image, 0, 0)?, Some(300.0));
+//! use scp::Edition;
 //!
-//! let (intervals, open) = scp::all_intervals(scp::flux(&image, 0, 0)?)?;
+//! # let image = scp::example::image_a();
+//! scp::validate(&image, Edition::V1_6)?;
+//! let revolution = scp::revolution(&image, Edition::V1_6, 0, 0)?;
+//! assert_eq!((revolution.duration, revolution.words, revolution.offset), (8_000_000, 4, 704));
+//! assert_eq!(scp::speed(&image, Edition::V1_6, 0, 0)?, Some(300.0));
+//!
+//! let (intervals, open) = scp::all_intervals(scp::flux(&image, Edition::V1_6, 0, 0)?)?;
 //! assert_eq!((intervals, open), (vec![160, 65_537, 240], 0)); // a zero word is 65,536 ticks
+//! # Ok::<(), scp::Refusal>(())
+//! ```
+//!
+//! An image of revision 1.4, whose table is shorter:
+//!
+//! ```
+//! use scp::Edition;
+//!
+//! # let image = scp::example::image_a_1_4();
+//! scp::validate(&image, Edition::V1_4)?;
+//! assert_eq!(scp::track(&image, Edition::V1_4, 0)?.offset, 0x2A8);
+//! assert_eq!(scp::revolution(&image, Edition::V1_4, 0, 0)?.offset, 696);
 //! # Ok::<(), scp::Refusal>(())
 //! ```
 #![deny(unsafe_code)]
 #![warn(missing_docs)]
 
 mod answers;
+mod edition;
 pub mod example;
 #[allow(unsafe_code)]
 pub mod raw;
@@ -25,11 +40,9 @@ mod refusal;
 mod replay;
 
 pub use answers::{Footer, Header, Revolution, Step, Track, TrackSpeeds, STRING_NAMES};
+pub use edition::Edition;
 pub use refusal::{Reason, Refusal};
-pub use replay::{replay, Answer, Call};
-
-/// How many tracks the table has: their numbers are 0 to 167.
-pub const TRACKS: u32 = 168;
+pub use replay::{replay, replay_mixed, Answer, Call};
 
 /// The length of the longest image, in bytes.
 pub const LONGEST_IMAGE: usize = 268_435_456;
@@ -40,37 +53,50 @@ pub const ZERO_WORD_TICKS: u64 = 65_536;
 /// Whether the image obeys the text: refusals 1 to 12.
 ///
 /// ```
+/// use scp::{Edition, Reason};
+///
 /// let mut image = scp::example::image_a();
-/// assert_eq!(scp::validate(&image), Ok(()));
+/// assert_eq!(scp::validate(&image, Edition::V1_6), Ok(()));
 /// image[12] += 1;
-/// assert_eq!(scp::validate(&image).unwrap_err().reason, scp::Reason::Sum);
-/// assert_eq!(scp::validate(&[]).unwrap_err().reason.number(), 1);
+/// assert_eq!(scp::validate(&image, Edition::V1_6).unwrap_err().reason, Reason::Sum);
+/// assert_eq!(scp::validate(&[], Edition::V1_6).unwrap_err().reason.number(), 1);
+///
+/// let mut old = scp::example::image_a_1_4();
+/// assert_eq!(scp::validate(&old, Edition::V1_4), Ok(()));
+/// old[7] = 166; // the end track
+/// assert_eq!(scp::validate(&old, Edition::V1_4).unwrap_err().reason, Reason::Span);
 /// ```
-pub fn validate(image: &[u8]) -> Result<(), Refusal> {
-    Refusal::of_code(raw::validate(image))
+pub fn validate(image: &[u8], edition: Edition) -> Result<(), Refusal> {
+    Refusal::of_code(raw::validate(image, edition.number()))
 }
 
 /// The header's fields.
 ///
 /// ```
-/// let header = scp::header(&scp::example::image_a())?;
+/// let header = scp::header(&scp::example::image_a(), scp::Edition::V1_6)?;
 /// assert_eq!((header.version, header.revolutions, header.checksum), (0x16, 1, 980));
 /// # Ok::<(), scp::Refusal>(())
 /// ```
-pub fn header(image: &[u8]) -> Result<Header, Refusal> {
+pub fn header(image: &[u8], edition: Edition) -> Result<Header, Refusal> {
     let mut out = [0; 9];
-    Refusal::of_code(raw::header(image, &mut out))?;
+    Refusal::of_code(raw::header(image, edition.number(), &mut out))?;
     Ok(Header::of_numbers(out))
 }
 
-/// The footer, or that there is none.
+/// The footer, or that there is none, as always by revision 1.4.
 ///
 /// ```
-/// assert_eq!(scp::footer(&scp::example::image_a()), Ok(None));
+/// use scp::{Edition, Reason};
+///
+/// let mut image = scp::example::image_a();
+/// assert_eq!(scp::footer(&image, Edition::V1_6), Ok(None));
+/// image[8] |= 0x20; // FLAGS bit 5, but no footer
+/// assert_eq!(scp::footer(&image, Edition::V1_6).unwrap_err().reason, Reason::Footer);
+/// assert_eq!(scp::footer(&image, Edition::V1_4), Ok(None));
 /// ```
-pub fn footer(image: &[u8]) -> Result<Option<Footer>, Refusal> {
+pub fn footer(image: &[u8], edition: Edition) -> Result<Option<Footer>, Refusal> {
     let mut out = [0; 13];
-    Refusal::of_code(raw::footer(image, &mut out))?;
+    Refusal::of_code(raw::footer(image, edition.number(), &mut out))?;
     Ok(Footer::of_numbers(&out))
 }
 
@@ -93,47 +119,52 @@ pub fn string(image: &[u8], offset: u32) -> Option<&[u8]> {
 /// The numbers of the tracks that the image has, in order.
 ///
 /// ```
-/// assert_eq!(scp::tracks(&scp::example::image_a()), Ok(vec![0]));
+/// assert_eq!(scp::tracks(&scp::example::image_a(), scp::Edition::V1_6), Ok(vec![0]));
 /// ```
-pub fn tracks(image: &[u8]) -> Result<Vec<u32>, Refusal> {
-    header(image)?;
-    Ok((0..TRACKS).filter(|&number| track(image, number).is_ok()).collect())
+pub fn tracks(image: &[u8], edition: Edition) -> Result<Vec<u32>, Refusal> {
+    header(image, edition)?;
+    Ok((0..edition.tracks()).filter(|&number| track(image, edition, number).is_ok()).collect())
 }
 
 /// A track.
 ///
 /// ```
-/// let track = scp::track(&scp::example::image_a(), 0)?;
+/// use scp::{Edition, Reason};
+///
+/// let image = scp::example::image_a();
+/// let track = scp::track(&image, Edition::V1_6, 0)?;
 /// assert_eq!((track.cylinder, track.head, track.offset, track.revolutions), (0, 0, 0x2B0, 1));
-/// assert_eq!(scp::track(&scp::example::image_a(), 1).unwrap_err().reason, scp::Reason::Absent);
+/// assert_eq!(scp::track(&image, Edition::V1_6, 1).unwrap_err().reason, Reason::Absent);
 /// # Ok::<(), scp::Refusal>(())
 /// ```
-pub fn track(image: &[u8], track: u32) -> Result<Track, Refusal> {
+pub fn track(image: &[u8], edition: Edition, track: u32) -> Result<Track, Refusal> {
     let mut out = [0; 4];
-    Refusal::of_code(raw::track(image, track, &mut out))?;
+    Refusal::of_code(raw::track(image, edition.number(), track, &mut out))?;
     Ok(Track::of_numbers(out))
 }
 
 /// A revolution of a track.
 ///
 /// ```
-/// let refusal = scp::revolution(&scp::example::image_a(), 0, 1).unwrap_err();
+/// let refusal = scp::revolution(&scp::example::image_a(), scp::Edition::V1_6, 0, 1).unwrap_err();
 /// assert_eq!(refusal.to_string(), "refused 14 (Revolution) at 0: the revolution asked for is not in the image");
 /// ```
-pub fn revolution(image: &[u8], track: u32, revolution: u32) -> Result<Revolution, Refusal> {
+pub fn revolution(image: &[u8], edition: Edition, track: u32, revolution: u32) -> Result<Revolution, Refusal> {
     let mut out = [0; 3];
-    Refusal::of_code(raw::revolution(image, track, revolution, &mut out))?;
+    Refusal::of_code(raw::revolution(image, edition.number(), track, revolution, &mut out))?;
     Ok(Revolution::of_numbers(out))
 }
 
 /// The flux of a revolution, as that part of the image.
 ///
 /// ```
-/// assert_eq!(scp::flux(&scp::example::image_a(), 0, 0)?, [0x00, 0xA0, 0x00, 0x00, 0x00, 0x01, 0x00, 0xF0]);
+/// let flux = [0x00, 0xA0, 0x00, 0x00, 0x00, 0x01, 0x00, 0xF0];
+/// assert_eq!(scp::flux(&scp::example::image_a(), scp::Edition::V1_6, 0, 0)?, flux);
+/// assert_eq!(scp::flux(&scp::example::image_a_1_4(), scp::Edition::V1_4, 0, 0)?, flux);
 /// # Ok::<(), scp::Refusal>(())
 /// ```
-pub fn flux(image: &[u8], track: u32, revolution: u32) -> Result<&[u8], Refusal> {
-    let found = self::revolution(image, track, revolution)?;
+pub fn flux(image: &[u8], edition: Edition, track: u32, revolution: u32) -> Result<&[u8], Refusal> {
+    let found = self::revolution(image, edition, track, revolution)?;
     let start = found.offset as usize;
     Ok(&image[start..start + 2 * found.words as usize])
 }
@@ -142,36 +173,36 @@ pub fn flux(image: &[u8], track: u32, revolution: u32) -> Result<&[u8], Refusal>
 ///
 /// ```
 /// let mut out = [7; 9];
-/// assert_eq!(scp::copy_flux(&scp::example::image_a(), 0, 0, &mut out)?, 8);
+/// assert_eq!(scp::copy_flux(&scp::example::image_a(), scp::Edition::V1_6, 0, 0, &mut out)?, 8);
 /// assert_eq!(out, [0x00, 0xA0, 0x00, 0x00, 0x00, 0x01, 0x00, 0xF0, 7]);
 /// # Ok::<(), scp::Refusal>(())
 /// ```
-pub fn copy_flux(image: &[u8], track: u32, revolution: u32, out: &mut [u8]) -> Result<usize, Refusal> {
-    Refusal::of_code(raw::flux(image, track, revolution, out))?;
-    Ok(2 * self::revolution(image, track, revolution)?.words as usize)
+pub fn copy_flux(image: &[u8], edition: Edition, track: u32, revolution: u32, out: &mut [u8]) -> Result<usize, Refusal> {
+    Refusal::of_code(raw::flux(image, edition.number(), track, revolution, out))?;
+    Ok(2 * self::revolution(image, edition, track, revolution)?.words as usize)
 }
 
 /// The drive speed of a revolution in rpm, or none for duration 0.
 ///
 /// ```
-/// assert_eq!(scp::speed(&scp::example::image_a(), 0, 0), Ok(Some(300.0)));
+/// assert_eq!(scp::speed(&scp::example::image_a(), scp::Edition::V1_6, 0, 0), Ok(Some(300.0)));
 /// ```
-pub fn speed(image: &[u8], track: u32, revolution: u32) -> Result<Option<f64>, Refusal> {
+pub fn speed(image: &[u8], edition: Edition, track: u32, revolution: u32) -> Result<Option<f64>, Refusal> {
     let mut out = [0.0; 2];
-    Refusal::of_code(raw::speed(image, track, revolution, &mut out))?;
+    Refusal::of_code(raw::speed(image, edition.number(), track, revolution, &mut out))?;
     Ok((out[0] == 1.0).then_some(out[1]))
 }
 
 /// The slowest and the fastest speed of a track, or none if all its durations are 0.
 ///
 /// ```
-/// let speeds = scp::track_speed(&scp::example::image_a(), 0)?.expect("its duration is not 0");
+/// let speeds = scp::track_speed(&scp::example::image_a(), scp::Edition::V1_6, 0)?.expect("its duration is not 0");
 /// assert_eq!((speeds.slowest, speeds.fastest), (300.0, 300.0));
 /// # Ok::<(), scp::Refusal>(())
 /// ```
-pub fn track_speed(image: &[u8], track: u32) -> Result<Option<TrackSpeeds>, Refusal> {
+pub fn track_speed(image: &[u8], edition: Edition, track: u32) -> Result<Option<TrackSpeeds>, Refusal> {
     let mut out = [0.0; 3];
-    Refusal::of_code(raw::track_speed(image, track, &mut out))?;
+    Refusal::of_code(raw::track_speed(image, edition.number(), track, &mut out))?;
     Ok((out[0] == 1.0).then_some(TrackSpeeds { slowest: out[1], fastest: out[2] }))
 }
 
@@ -232,13 +263,22 @@ pub fn words(times: &[u64], words: &mut [u8]) -> Result<usize, Refusal> {
 
 /// Puts a new duration and new words into a revolution, at most as many as it has; the checksum moves by the change alone.
 ///
+/// A byte that something else claims by the edition is not written; by revision 1.4 a footer and its strings claim nothing.
+///
 /// ```
+/// use scp::Edition;
+///
+/// let words = [0x01, 0x40, 0x00, 0x00, 0x00, 0x01, 0x00, 0xF0];
 /// let mut image = scp::example::image_a();
-/// scp::rewrite(&mut image, 0, 0, 8_000_000, &[0x01, 0x40, 0x00, 0x00, 0x00, 0x01, 0x00, 0xF0])?;
-/// assert_eq!(scp::header(&image)?.checksum, 885);
-/// assert_eq!(scp::validate(&image), Ok(()));
+/// scp::rewrite(&mut image, Edition::V1_6, 0, 0, 8_000_000, &words)?;
+/// assert_eq!(scp::header(&image, Edition::V1_6)?.checksum, 885);
+/// assert_eq!(scp::validate(&image, Edition::V1_6), Ok(()));
+///
+/// let mut old = scp::example::image_a_1_4();
+/// scp::rewrite(&mut old, Edition::V1_4, 0, 0, 8_000_000, &words)?;
+/// assert_eq!(scp::header(&old, Edition::V1_4)?.checksum, 877);
 /// # Ok::<(), scp::Refusal>(())
 /// ```
-pub fn rewrite(image: &mut [u8], track: u32, revolution: u32, duration: u32, words: &[u8]) -> Result<(), Refusal> {
-    Refusal::of_code(raw::rewrite(image, track, revolution, duration, words))
+pub fn rewrite(image: &mut [u8], edition: Edition, track: u32, revolution: u32, duration: u32, words: &[u8]) -> Result<(), Refusal> {
+    Refusal::of_code(raw::rewrite(image, edition.number(), track, revolution, duration, words))
 }

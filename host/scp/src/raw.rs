@@ -1,23 +1,33 @@
 //! The thirteen functions of the archive, as `include/scp.h` declares them: each returns 0, or a refusal's number + 256 x its position.
+//! An edition is a number: 14 is revision 1.4, every other one 1.6.
 //!
 //! This is the only module with `unsafe` code. Its functions are safe, since a slice's pointer and length are what the archive wants.
 
 mod archive {
     extern "C" {
-        pub fn scp_validate(image: *const u8, size: usize) -> u64;
-        pub fn scp_header(image: *const u8, size: usize, out: *mut u64, places: usize) -> u64;
-        pub fn scp_footer(image: *const u8, size: usize, out: *mut u64, places: usize) -> u64;
-        pub fn scp_track(image: *const u8, size: usize, track: u32, out: *mut u64, places: usize) -> u64;
-        pub fn scp_revolution(image: *const u8, size: usize, track: u32, revolution: u32, out: *mut u64, places: usize) -> u64;
-        pub fn scp_flux(image: *const u8, size: usize, track: u32, revolution: u32, out: *mut u8, places: usize) -> u64;
-        pub fn scp_speed(image: *const u8, size: usize, track: u32, revolution: u32, out: *mut f64, places: usize) -> u64;
-        pub fn scp_track_speed(image: *const u8, size: usize, track: u32, out: *mut f64, places: usize) -> u64;
+        pub fn scp_validate(image: *const u8, size: usize, edition: u32) -> u64;
+        pub fn scp_header(image: *const u8, size: usize, edition: u32, out: *mut u64, places: usize) -> u64;
+        pub fn scp_footer(image: *const u8, size: usize, edition: u32, out: *mut u64, places: usize) -> u64;
+        pub fn scp_track(image: *const u8, size: usize, edition: u32, track: u32, out: *mut u64, places: usize) -> u64;
+        pub fn scp_revolution(
+            image: *const u8,
+            size: usize,
+            edition: u32,
+            track: u32,
+            revolution: u32,
+            out: *mut u64,
+            places: usize,
+        ) -> u64;
+        pub fn scp_flux(image: *const u8, size: usize, edition: u32, track: u32, revolution: u32, out: *mut u8, places: usize) -> u64;
+        pub fn scp_speed(image: *const u8, size: usize, edition: u32, track: u32, revolution: u32, out: *mut f64, places: usize) -> u64;
+        pub fn scp_track_speed(image: *const u8, size: usize, edition: u32, track: u32, out: *mut f64, places: usize) -> u64;
         pub fn scp_step(flux: *const u8, size: usize, word: u64, out: *mut u64, places: usize) -> u64;
         pub fn scp_intervals(flux: *const u8, size: usize, times: *mut u64, count: usize, out: *mut u64, places: usize) -> u64;
         pub fn scp_words(times: *const u64, count: usize, words: *mut u8, size: usize, out: *mut u64, places: usize) -> u64;
         pub fn scp_rewrite(
             image: *mut u8,
             size: usize,
+            edition: u32,
             track: u32,
             revolution: u32,
             duration: u32,
@@ -38,51 +48,51 @@ mod archive {
 }
 
 /// Refusals 1 to 12.
-pub fn validate(image: &[u8]) -> u64 {
+pub fn validate(image: &[u8], edition: u32) -> u64 {
     // SAFETY: pointer and length are those of a slice, lent for the call.
-    unsafe { archive::scp_validate(image.as_ptr(), image.len()) }
+    unsafe { archive::scp_validate(image.as_ptr(), image.len(), edition) }
 }
 
 /// Version, disk type, revolutions, start, end, flags, width, heads, checksum: 9 numbers.
-pub fn header(image: &[u8], out: &mut [u64]) -> u64 {
+pub fn header(image: &[u8], edition: u32, out: &mut [u64]) -> u64 {
     // SAFETY: pointers and lengths are those of slices, lent for the call and apart from each other.
-    unsafe { archive::scp_header(image.as_ptr(), image.len(), out.as_mut_ptr(), out.len()) }
+    unsafe { archive::scp_header(image.as_ptr(), image.len(), edition, out.as_mut_ptr(), out.len()) }
 }
 
 /// 1 or 0 (present), six offsets, created, modified (two's complement), four version bytes: 13 numbers.
-pub fn footer(image: &[u8], out: &mut [u64]) -> u64 {
+pub fn footer(image: &[u8], edition: u32, out: &mut [u64]) -> u64 {
     // SAFETY: as in `header`.
-    unsafe { archive::scp_footer(image.as_ptr(), image.len(), out.as_mut_ptr(), out.len()) }
+    unsafe { archive::scp_footer(image.as_ptr(), image.len(), edition, out.as_mut_ptr(), out.len()) }
 }
 
 /// Cylinder, head, file offset of the track data header, revolutions: 4 numbers.
-pub fn track(image: &[u8], track: u32, out: &mut [u64]) -> u64 {
+pub fn track(image: &[u8], edition: u32, track: u32, out: &mut [u64]) -> u64 {
     // SAFETY: as in `header`.
-    unsafe { archive::scp_track(image.as_ptr(), image.len(), track, out.as_mut_ptr(), out.len()) }
+    unsafe { archive::scp_track(image.as_ptr(), image.len(), edition, track, out.as_mut_ptr(), out.len()) }
 }
 
 /// Duration, words, file offset of the flux: 3 numbers.
-pub fn revolution(image: &[u8], track: u32, revolution: u32, out: &mut [u64]) -> u64 {
+pub fn revolution(image: &[u8], edition: u32, track: u32, revolution: u32, out: &mut [u64]) -> u64 {
     // SAFETY: as in `header`.
-    unsafe { archive::scp_revolution(image.as_ptr(), image.len(), track, revolution, out.as_mut_ptr(), out.len()) }
+    unsafe { archive::scp_revolution(image.as_ptr(), image.len(), edition, track, revolution, out.as_mut_ptr(), out.len()) }
 }
 
 /// The flux bytes of a revolution.
-pub fn flux(image: &[u8], track: u32, revolution: u32, out: &mut [u8]) -> u64 {
+pub fn flux(image: &[u8], edition: u32, track: u32, revolution: u32, out: &mut [u8]) -> u64 {
     // SAFETY: as in `header`.
-    unsafe { archive::scp_flux(image.as_ptr(), image.len(), track, revolution, out.as_mut_ptr(), out.len()) }
+    unsafe { archive::scp_flux(image.as_ptr(), image.len(), edition, track, revolution, out.as_mut_ptr(), out.len()) }
 }
 
 /// 1.0 and the speed of a revolution, or two zeros.
-pub fn speed(image: &[u8], track: u32, revolution: u32, out: &mut [f64]) -> u64 {
+pub fn speed(image: &[u8], edition: u32, track: u32, revolution: u32, out: &mut [f64]) -> u64 {
     // SAFETY: as in `header`.
-    unsafe { archive::scp_speed(image.as_ptr(), image.len(), track, revolution, out.as_mut_ptr(), out.len()) }
+    unsafe { archive::scp_speed(image.as_ptr(), image.len(), edition, track, revolution, out.as_mut_ptr(), out.len()) }
 }
 
 /// 1.0, the slowest and the fastest speed of a track, or three zeros.
-pub fn track_speed(image: &[u8], track: u32, out: &mut [f64]) -> u64 {
+pub fn track_speed(image: &[u8], edition: u32, track: u32, out: &mut [f64]) -> u64 {
     // SAFETY: as in `header`.
-    unsafe { archive::scp_track_speed(image.as_ptr(), image.len(), track, out.as_mut_ptr(), out.len()) }
+    unsafe { archive::scp_track_speed(image.as_ptr(), image.len(), edition, track, out.as_mut_ptr(), out.len()) }
 }
 
 /// Interval (0: none), open ticks, next word number: 3 numbers.
@@ -104,15 +114,15 @@ pub fn words(times: &[u64], words: &mut [u8], out: &mut [u64]) -> u64 {
 }
 
 /// Rewrites a revolution in the image.
-pub fn rewrite(image: &mut [u8], track: u32, revolution: u32, duration: u32, words: &[u8]) -> u64 {
+pub fn rewrite(image: &mut [u8], edition: u32, track: u32, revolution: u32, duration: u32, words: &[u8]) -> u64 {
     // SAFETY: as in `header`.
     unsafe {
         let (size, words_size) = (image.len(), words.len());
-        archive::scp_rewrite(image.as_mut_ptr(), size, track, revolution, duration, words.as_ptr(), words_size)
+        archive::scp_rewrite(image.as_mut_ptr(), size, edition, track, revolution, duration, words.as_ptr(), words_size)
     }
 }
 
-/// Runs a list of calls, 6 numbers each; 16 numbers a call to `answers`.
+/// Runs a list of calls, 7 numbers each, the last of them the edition; 16 numbers a call to `answers`.
 pub fn replay(image: &mut [u8], calls: &[u64], words: &[u8], answers: &mut [u64]) -> u64 {
     // SAFETY: as in `header`.
     unsafe {

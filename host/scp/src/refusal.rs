@@ -19,9 +19,9 @@ pub enum Reason {
     Span,
     /// The heads byte.
     Heads,
-    /// The footer.
+    /// The footer; never by revision 1.4.
     Footer,
-    /// A string of the footer; the position is its number, 0 to 5.
+    /// A string of the footer; the position is its number, 0 to 5. Never by revision 1.4.
     String,
     /// An entry of the table; the position is the track.
     Slot,
@@ -81,11 +81,11 @@ impl Reason {
     /// What the reason means, in a line.
     pub fn meaning(self) -> &'static str {
         match self {
-            Reason::Size => "the image is shorter than 688 bytes or longer than 268,435,456",
+            Reason::Size => "the image is shorter than 688 bytes (680 by revision 1.4) or longer than 268,435,456",
             Reason::Sign => "the image does not start with \"SCP\"",
             Reason::Width => "the word width is neither 0 nor 16",
             Reason::Revolutions => "the number of revolutions is 0, or more than 1 on a read/write image",
-            Reason::Span => "the start track is above the end track, or the end track above 167",
+            Reason::Span => "the start track is above the end track, or the end track above 167 (165 by revision 1.4)",
             Reason::Heads => "the heads byte is above 2",
             Reason::Footer => "the footer is flagged, but too short, without \"FPCS\" or older than 0x16",
             Reason::String => "a string of the footer is misplaced or malformed",
@@ -170,7 +170,7 @@ impl fmt::Debug for Refusal {
     /// As [`fmt::Display`], so that a failed `unwrap` says what is wrong, too.
     ///
     /// ```
-    /// let refusal = scp::track(&scp::example::image_a(), 1).unwrap_err();
+    /// let refusal = scp::track(&scp::example::image_a(), scp::Edition::V1_6, 1).unwrap_err();
     /// assert_eq!(format!("{refusal:?}"), "refused 13 (Absent) at 0: the track asked for is not in the image");
     /// ```
     fn fmt(&self, f: &mut fmt::Formatter<'_>) -> fmt::Result {

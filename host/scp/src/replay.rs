@@ -1,6 +1,7 @@
 //! Sequences of calls on one image, run by the archive in one go.
 
 use crate::answers::{Footer, Header, Revolution, Track, TrackSpeeds};
+use crate::edition::Edition;
 use crate::raw;
 use crate::refusal::Refusal;
 
@@ -88,13 +89,14 @@ pub enum Answer {
 }
 
 /// Numbers of a call, and of an answer.
-const CALL: usize = 6;
+const CALL: usize = 7;
 const ANSWER: usize = 16;
 
 impl Call {
-    /// The call as a row; its words are added to `words`.
-    fn row(&self, words: &mut Vec<u8>) -> [u64; CALL] {
-        let row = |kind, track, revolution| [kind, u64::from(track), u64::from(revolution), 0, 0, 0];
+    /// The call by an edition as a row; its words are added to `words`.
+    fn row(&self, edition: Edition, words: &mut Vec<u8>) -> [u64; CALL] {
+        let edition = u64::from(edition.number());
+        let row = |kind, track, revolution| [kind, u64::from(track), u64::from(revolution), 0, 0, 0, edition];
         match *self {
             Call::Validate => row(0, 0, 0),
             Call::Header => row(1, 0, 0),
@@ -107,7 +109,7 @@ impl Call {
             Call::Rewrite { track, revolution, duration, words: ref new } => {
                 let (start, size) = (words.len() as u64, new.len() as u64);
                 words.extend_from_slice(new);
-                [8, u64::from(track), u64::from(revolution), u64::from(duration), start, size]
+                [8, u64::from(track), u64::from(revolution), u64::from(duration), start, size, edition]
             }
         }
     }
@@ -137,25 +139,43 @@ fn first<const N: usize>(values: &[u64]) -> [u64; N] {
     std::array::from_fn(|i| values[i])
 }
 
-/// Runs the calls on the image in order, each on what the last one left, and gives their answers.
+/// Runs the calls on the image in order, all by one edition, each on what the last one left, and gives their answers.
 ///
 /// ```
-/// use scp::{Answer, Call};
+/// use scp::{Answer, Call, Edition};
 ///
 /// let mut image = scp::example::image_a();
 /// let words = vec![0x01, 0x40, 0x00, 0x00, 0x00, 0x01, 0x00, 0xF0];
 /// let rewrite = Call::Rewrite { track: 0, revolution: 0, duration: 8_000_000, words };
 /// let calls = [rewrite, Call::Validate, Call::Flux { track: 0, revolution: 0 }];
 /// let flux = Answer::Flux { offset: 704, size: 8, sum: 306 };
-/// assert_eq!(scp::replay(&mut image, &calls), [Ok(Answer::Rewritten), Ok(Answer::Valid), Ok(flux)]);
-/// assert_eq!(scp::header(&image)?.checksum, 885);
+/// assert_eq!(scp::replay(&mut image, Edition::V1_6, &calls), [Ok(Answer::Rewritten), Ok(Answer::Valid), Ok(flux)]);
+/// assert_eq!(scp::header(&image, Edition::V1_6)?.checksum, 885);
 /// # Ok::<(), scp::Refusal>(())
 /// ```
-pub fn replay(image: &mut [u8], calls: &[Call]) -> Vec<Result<Answer, Refusal>> {
-    let mut words = Vec::new();
-    let rows: Vec<u64> = calls.iter().flat_map(|call| call.row(&mut words)).collect();
-    let mut answers = vec![0; ANSWER * calls.len()];
+pub fn replay(image: &mut [u8], edition: Edition, calls: &[Call]) -> Vec<Result<Answer, Refusal>> {
+    replay_mixed(image, calls.iter().map(|call| (edition, call)))
+}
+
+/// Runs calls as [`replay`] does, each by the edition that stands with it.
+///
+/// ```
+/// use scp::{Answer, Call, Edition, Reason};
+///
+/// let mut image = scp::example::image_a_1_4();
+/// let calls = [(Edition::V1_4, &Call::Validate), (Edition::V1_6, &Call::Validate)];
+/// let answers = scp::replay_mixed(&mut image, calls);
+/// assert_eq!(answers[0], Ok(Answer::Valid));
+/// assert_eq!(answers[1].unwrap_err().reason, Reason::Track);
+/// ```
+pub fn replay_mixed<'a>(image: &mut [u8], calls: impl IntoIterator<Item = (Edition, &'a Call)>) -> Vec<Result<Answer, Refusal>> {
+    let (mut asked, mut rows, mut words) = (Vec::new(), Vec::new(), Vec::new());
+    for (edition, call) in calls {
+        rows.extend(call.row(edition, &mut words));
+        asked.push(call);
+    }
+    let mut answers = vec![0; ANSWER * asked.len()];
     let code = raw::replay(image, &rows, &words, &mut answers);
     assert_eq!(code, 0, "there are 16 places a call");
-    calls.iter().zip(answers.chunks_exact(ANSWER)).map(|(call, row)| call.answer(row)).collect()
+    asked.iter().zip(answers.chunks_exact(ANSWER)).map(|(call, row)| call.answer(row)).collect()
 }

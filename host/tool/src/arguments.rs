@@ -3,6 +3,9 @@
 use std::ffi::{OsStr, OsString};
 use std::io::Write;
 
+use scp::Edition;
+
+use crate::editions;
 use crate::failure::Failure;
 use crate::files::shown;
 use crate::numbers::number;
@@ -99,6 +102,12 @@ impl Arguments {
     /// The number that an option is, or another one where it is not given.
     pub fn number_or(&self, name: &str, other: u32) -> Result<u32, Failure> {
         self.value(name).map_or(Ok(other), |text| number_of(name, text))
+    }
+
+    /// The edition that --edition names, or 1.6 where it is not given.
+    pub fn edition(&self) -> Result<Edition, Failure> {
+        let Some(name) = self.value("--edition") else { return Ok(Edition::V1_6) };
+        editions::named(&name.to_string_lossy()).map_err(|message| Failure::usage(format!("--edition: {message}")))
     }
 }
 

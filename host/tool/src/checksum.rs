@@ -3,7 +3,7 @@
 use std::fmt;
 use std::io::{self, Write};
 
-use scp::Refusal;
+use scp::{Edition, Refusal};
 
 use crate::layout::Layout;
 
@@ -21,10 +21,15 @@ pub struct Checksum {
 
 impl Checksum {
     /// The checksum of an image that opens.
-    pub fn of(image: &[u8]) -> Result<Checksum, Refusal> {
-        let header = scp::header(image)?;
-        let sum = Layout(image).sum();
-        Ok(Checksum { stored: header.checksum, sum, read_write: header.is_read_write(), sound: scp::validate(image).is_ok() })
+    pub fn of(image: &[u8], edition: Edition) -> Result<Checksum, Refusal> {
+        let header = scp::header(image, edition)?;
+        let (sum, sound) = (Layout { bytes: image, edition }.sum(), scp::validate(image, edition).is_ok());
+        Ok(Checksum { stored: header.checksum, sum, read_write: header.is_read_write(), sound })
+    }
+
+    /// The checksum of an image that opens by some edition; all have the same rule for it.
+    pub fn of_any(image: &[u8]) -> Option<Checksum> {
+        Edition::ALL.into_iter().find_map(|edition| Checksum::of(image, edition).ok())
     }
 }
 

@@ -2,13 +2,27 @@
 
 use std::fmt;
 
+/// The rules that images of a kind are judged by.
+pub trait Rules: Copy {
+    /// What refuses an image.
+    type Refusal: Refused;
+
+    /// The library's verdict on an image.
+    fn validate(self, image: &[u8]) -> Result<(), Self::Refusal>;
+
+    /// All faults of an image that can be told apart, in the order of the rules; none where the library accepts it.
+    fn faults(self, image: &[u8]) -> Vec<Fault<Self::Refusal>>;
+
+    /// What else to try with an image that is refused.
+    fn hint(self, _image: &[u8], _refusal: Self::Refusal) -> Option<String> {
+        None
+    }
+}
+
 /// A refusal of a library that judges images.
 pub trait Refused: Copy + PartialEq + fmt::Display {
     /// The number of its reason, and the reason, whose name is shown.
     fn reason(&self) -> (u8, &dyn fmt::Debug);
-
-    /// All faults of an image that can be told apart, in the order of the rules; none where the library accepts it.
-    fn faults(image: &[u8]) -> Vec<Fault<Self>>;
 }
 
 /// A fault of an image: the refusal that it is, and what was found and due.
@@ -27,10 +41,11 @@ impl<R: Refused> fmt::Display for Fault<R> {
     }
 }
 
-/// A refusal of an image as it is.
-pub fn of_image<R: Refused>(image: &[u8], refusal: R) -> String {
-    let fault = R::faults(image).into_iter().find(|fault| fault.refusal == refusal);
-    said(refusal, fault.map(|fault| fault.text))
+/// A refusal of an image as it is, with the hint that there may be.
+pub fn of_image<R: Rules>(rules: R, image: &[u8], refusal: R::Refusal) -> String {
+    let fault = rules.faults(image).into_iter().find(|fault| fault.refusal == refusal);
+    let hint = rules.hint(image, refusal).map(|hint| format!(" ({hint})"));
+    said(refusal, fault.map(|fault| fault.text)) + &hint.unwrap_or_default()
 }
 
 /// A refusal with its text, or with its own where there is none.

@@ -5,11 +5,7 @@ use std::fs::{self, File, Metadata, Permissions};
 use std::io::{self, Read};
 use std::path::Path;
 
-use scp::Refusal;
-
 use crate::failure::Failure;
-use crate::faults::of_image;
-use crate::reasons::{self, Asked};
 use crate::stamp::Stamp;
 use crate::streams;
 
@@ -133,27 +129,7 @@ impl Input {
         Ok(room)
     }
 
-    /// The library's answer to a question about this image, or its refusal as a failure.
-    pub fn ask<'a, T>(&'a self, question: impl FnOnce(&'a [u8]) -> Result<T, Refusal>) -> Result<T, Failure> {
-        question(&self.bytes).map_err(|refusal| self.failure(of_image(&self.bytes, refusal)))
-    }
-
-    /// The library's answer to a question about a revolution, or about its track.
-    pub fn ask_of<'a, T>(
-        &'a self,
-        (track, revolution): (u32, u32),
-        question: impl FnOnce(&'a [u8], u32, u32) -> Result<T, Refusal>,
-    ) -> Result<T, Failure> {
-        let asked = Asked { track, revolution, size: 0 };
-        question(&self.bytes, track, revolution).map_err(|refusal| self.refused(asked, refusal))
-    }
-
-    /// The failure that a refusal of what was asked of this image is.
-    pub fn refused(&self, asked: Asked, refusal: Refusal) -> Failure {
-        self.failure(reasons::of_asked(&self.bytes, asked, refusal))
-    }
-
-    /// The failure of this image that a refusal is, as it is told.
+    /// The failure of this file that a refusal is, as it is told.
     pub fn failure(&self, told: impl std::fmt::Display) -> Failure {
         Failure::refused(format!("{}: {told}", self.name))
     }

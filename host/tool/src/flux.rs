@@ -3,12 +3,17 @@
 use scp::{Refusal, Step};
 
 use crate::failure::Failure;
-use crate::files::Input;
+use crate::image::Image;
 
 /// Hands each interval of a revolution on in order, and gives the open time.
-pub fn each_interval(input: &Input, place: (u32, u32), take: impl FnMut(u64) -> Result<(), Failure>) -> Result<u64, Failure> {
-    let flux = input.ask_of(place, scp::flux)?;
-    walk(flux, |refusal| input.failure(refusal), take)
+pub fn each_interval(image: &Image, place: (u32, u32), take: impl FnMut(u64) -> Result<(), Failure>) -> Result<u64, Failure> {
+    let flux = image.ask_of(place, scp::flux)?;
+    walk(flux, |refusal| image.input.failure(refusal), take)
+}
+
+/// How many intervals a revolution has, and its open time.
+pub fn count_intervals_of(image: &Image, place: (u32, u32)) -> Result<(u64, u64), Failure> {
+    image.ask_of(place, |bytes, edition, track, revolution| count_intervals(scp::flux(bytes, edition, track, revolution)?))
 }
 
 /// How many intervals flux has, and its open time.

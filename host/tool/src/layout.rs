@@ -1,20 +1,14 @@
 //! What the bytes of an image say, accepted or not: for reasons, and for images that are refused.
 
-use scp::{Footer, Header, Revolution, TRACKS};
+use scp::{Edition, Footer, Header, Revolution};
 
 use crate::{files, parts};
 
 /// Where the table of the tracks starts; the checksum adds the bytes from here on.
 const TABLE: usize = 0x10;
 
-/// Where the table ends: tracks, flux and strings start here or later.
-pub const TABLE_END: usize = TABLE + 4 * TRACKS as usize;
-
 /// How many bytes a footer has.
-const FOOTER_SIZE: usize = 48;
-
-/// How many bytes an image with a footer has at least.
-pub const LEAST_WITH_FOOTER: usize = TABLE_END + FOOTER_SIZE;
+const FOOTER_SIZE: u64 = 48;
 
 /// The four bytes that close a footer.
 pub const FOOTER_SIGN: [u8; 4] = *b"FPCS";
@@ -34,19 +28,24 @@ pub enum TrackHeader {
     Other([u8; 3]),
 }
 
-/// The bytes of any file, read as those of an image.
+/// The bytes of any file, read as those of an image by an edition.
 #[derive(Clone, Copy)]
-pub struct Layout<'a>(pub &'a [u8]);
+pub struct Layout<'a> {
+    /// The bytes.
+    pub bytes: &'a [u8],
+    /// The edition.
+    pub edition: Edition,
+}
 
 impl<'a> Layout<'a> {
     /// As many bytes from an offset on, where the file has them.
     pub fn array<const N: usize>(self, offset: u64) -> Option<[u8; N]> {
-        parts::array(self.0, offset)
+        parts::array(self.bytes, offset)
     }
 
     /// The bytes from an offset on, where the file has so many.
     pub fn part(self, offset: u64, size: u64) -> Option<&'a [u8]> {
-        parts::part(self.0, offset, size)
+        parts::part(self.bytes, offset, size)
     }
 
     /// The 32-bit number at an offset.
@@ -62,24 +61,39 @@ impl<'a> Layout<'a> {
 
     /// The sum of the bytes that the checksum adds.
     pub fn sum(self) -> u32 {
-        let bytes = self.0.get(TABLE..).unwrap_or_default();
+        let bytes = self.bytes.get(TABLE..).unwrap_or_default();
         bytes.iter().fold(0, |sum, &byte| sum.wrapping_add(u32::from(byte)))
     }
 
-    /// Whether FLAGS announces a footer.
+    /// How many bytes the file has.
+    pub fn len(self) -> u64 {
+        self.bytes.len() as u64
+    }
+
+    /// Where the table ends: tracks, flux and strings start here or later.
+    pub fn table_end(self) -> u64 {
+        self.edition.table_end() as u64
+    }
+
+    /// Whether FLAGS announces a footer, by an edition that has one.
     pub fn has_footer(self) -> bool {
-        self.header().is_some_and(|header| header.flags & FOOTER_FLAG != 0)
+        self.edition.has_footer() && self.header().is_some_and(|header| header.flags & FOOTER_FLAG != 0)
+    }
+
+    /// How many bytes an image with a footer has at least.
+    pub fn least_with_footer(self) -> u64 {
+        self.table_end() + FOOTER_SIZE
     }
 
     /// Where tracks, flux and strings must have ended: before the footer where one is announced.
     pub fn end(self) -> u64 {
         let footer = if self.has_footer() { FOOTER_SIZE } else { 0 };
-        self.0.len().saturating_sub(footer) as u64
+        self.len().saturating_sub(footer)
     }
 
     /// The last bytes of the file, if FLAGS announces a footer and it has room; and the four bytes that close it.
     pub fn footer(self) -> Option<(Footer, [u8; 4])> {
-        if !self.has_footer() || self.0.len() < LEAST_WITH_FOOTER {
+        if !self.has_footer() || self.len() < self.least_with_footer() {
             return None;
         }
         let start = self.end();
@@ -94,7 +108,7 @@ impl<'a> Layout<'a> {
 
     /// The tracks whose entry is not 0, each with its entry; none where the table is not whole.
     pub fn entries(self) -> impl Iterator<Item = (u32, u64)> + 'a {
-        let table = self.0.get(TABLE..TABLE_END).unwrap_or_default().chunks_exact(4);
+        let table = self.bytes.get(TABLE..self.edition.table_end()).unwrap_or_default().chunks_exact(4);
         let entries = table.map(|entry| u64::from(u32::from_le_bytes([entry[0], entry[1], entry[2], entry[3]])));
         (0..).zip(entries).filter(|&(_, entry)| entry != 0)
     }
@@ -114,7 +128,7 @@ impl<'a> Layout<'a> {
     pub fn track_header(self, entry: u64) -> TrackHeader {
         let past = entry + self.track_header_size();
         match self.array(entry) {
-            _ if entry < TABLE_END as u64 => TrackHeader::TooLow,
+            _ if entry < self.table_end() => TrackHeader::TooLow,
             Some([b'T', b'R', b'K', track]) if past <= self.end() => TrackHeader::Of(track),
             Some([sign @ .., _]) if past <= self.end() => TrackHeader::Other(sign),
             _ => TrackHeader::TooHigh(past),
@@ -135,6 +149,6 @@ impl<'a> Layout<'a> {
 
     /// Whether the file is longer than any image; then not all of it was read.
     pub fn is_cut(self) -> bool {
-        files::is_cut(self.0)
+        files::is_cut(self.bytes)
     }
 }

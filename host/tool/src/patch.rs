@@ -10,6 +10,7 @@ use crate::checksum::{say_change, Checksum};
 use crate::destination::{Destination, Kind};
 use crate::failure::Failure;
 use crate::files::{shown, Input};
+use crate::image::Image;
 use crate::reasons::{self, Asked};
 use crate::times::{words_of_times, Unit};
 use crate::undo::{kept, Change};
@@ -18,7 +19,7 @@ use crate::undo::{kept, Change};
 pub const COMMAND: Command = Command {
     name: "patch",
     flags: &["--empty", "--force", "--in-place", "--us"],
-    values: &["--duration", "--times", "--undo", "--words"],
+    values: &["--duration", "--edition", "--times", "--undo", "--words"],
     help: include_str!("help/patch.txt"),
     run,
 };
@@ -36,18 +37,18 @@ fn run(arguments: &Arguments, out: &mut dyn Write) -> Result<(), Failure> {
     let [file, target, track, revolution] = arguments.operands(["FILE", "OUT", "TRACK", "REV"])?;
     let (track, revolution) = place_of(track, revolution)?;
     let (duration, (form, source), undo) = (duration(arguments)?, Form::of(arguments)?, arguments.value("--undo"));
-    let source = Input::read_all(source)?;
-    let mut input = Input::read_image(file, arguments.has("--in-place"))?;
-    let destination = Destination::new(target, &[&input, &source], arguments, Kind::Image)?;
-    let undo = undo.map(|undo| destination.fresh(undo, &input)).transpose()?;
-    let old = input.ask_of((track, revolution), scp::revolution)?;
+    let (edition, source) = (arguments.edition()?, Input::read_all(source)?);
+    let mut image = Image { input: Input::read_image(file, arguments.has("--in-place"))?, edition };
+    let destination = Destination::new(target, &[&image.input, &source], arguments, Kind::Image)?;
+    let undo = undo.map(|undo| destination.fresh(undo, &image.input)).transpose()?;
+    let old = image.ask_of((track, revolution), scp::revolution)?;
     let words = form.words(&source, old.words, arguments.has("--empty"))?;
     let duration = (old.duration, duration.unwrap_or(old.duration));
-    let change = Change { track, revolution, duration, words: (old.words as usize, words.len() / 2) };
-    let former = input.ask_of((track, revolution), scp::flux)?.to_vec();
-    let before = input.ask(Checksum::of)?;
-    rewrite(&mut input, &source, &change, &words)?;
-    let after = input.ask(Checksum::of)?;
+    let change = Change { edition, track, revolution, duration, words: (old.words as usize, words.len() / 2) };
+    let former = image.ask_of((track, revolution), scp::flux)?.to_vec();
+    let before = image.ask(Checksum::of)?;
+    rewrite(&mut image, &source, &change, &words)?;
+    let (after, input) = (image.ask(Checksum::of)?, &image.input);
     match undo {
         Some(undo) => {
             let undo = undo.stage(change.undo(&former, &input.name, &shown(target))?.as_bytes())?;
@@ -58,19 +59,19 @@ fn run(arguments: &Arguments, out: &mut dyn Write) -> Result<(), Failure> {
     writeln!(out, "track {track} revolution {revolution} of {} rewritten in {}", input.name, shown(target))?;
     let kept = match arguments.value("--undo") {
         Some(undo) => format!("are in {}", shown(undo)),
-        None => kept(arguments, &input),
+        None => kept(arguments, input),
     };
     say(out, &change, &kept)?;
     Ok(say_change(out, &before, &after)?)
 }
 
 /// Rewrites the revolution in memory; words that are refused are a fault of the file that they come from.
-fn rewrite(input: &mut Input, source: &Input, change: &Change, words: &[u8]) -> Result<(), Failure> {
+fn rewrite(image: &mut Image, source: &Input, change: &Change, words: &[u8]) -> Result<(), Failure> {
     let asked = Asked { track: change.track, revolution: change.revolution, size: words.len() };
-    let done = scp::rewrite(&mut input.bytes, asked.track, asked.revolution, change.duration.1, words);
+    let done = scp::rewrite(&mut image.input.bytes, image.edition, asked.track, asked.revolution, change.duration.1, words);
     done.map_err(|refusal| match refusal.reason {
-        Reason::Words => source.failure(reasons::of_asked(&input.bytes, asked, refusal)),
-        _ => input.refused(asked, refusal),
+        Reason::Words => source.failure(reasons::of_asked(image.layout(), asked, refusal)),
+        _ => image.refused(asked, refusal),
     })
 }
 

@@ -10,20 +10,22 @@ use std::io::Write;
 use crate::arguments::{place_of, Arguments, Command};
 use crate::destination::{Destination, Kind};
 use crate::failure::Failure;
-use crate::files::{shown, Input};
+use crate::files::shown;
+use crate::image::Image;
 use crate::numbers::counted;
 use subject::Subject;
 
 /// The command.
-pub const COMMAND: Command = Command { name: "plot", flags: &["--force"], values: &[], help: include_str!("help/plot.txt"), run };
+pub const COMMAND: Command =
+    Command { name: "plot", flags: &["--force"], values: &["--edition"], help: include_str!("help/plot.txt"), run };
 
 /// Draws the revolution and writes the drawing.
 fn run(arguments: &Arguments, out: &mut dyn Write) -> Result<(), Failure> {
     let [file, track, revolution, target] = arguments.operands(["FILE", "TRACK", "REV", "OUT.svg"])?;
     let place = place_of(track, revolution)?;
-    let input = Input::read(file)?;
-    let subject = Subject::of(&input, place)?;
-    let destination = Destination::new(target, &[&input], arguments, Kind::Drawing)?;
+    let image = Image::read(file, arguments.edition()?)?;
+    let subject = Subject::of(&image, place)?;
+    let destination = Destination::new(target, &[&image.input], arguments, Kind::Drawing)?;
     destination.stage(drawing::svg(&subject).as_bytes())?.commit()?;
     Ok(writeln!(out, "{} drawn in {}", counted(subject.intervals.len() as u64, "interval"), shown(target))?)
 }

@@ -4,12 +4,13 @@ use std::io::Write;
 
 use crate::arguments::{place_of, Arguments, Command};
 use crate::failure::Failure;
-use crate::files::Input;
 use crate::flux::each_interval;
+use crate::image::Image;
 use crate::numbers::microseconds;
 
 /// The command.
-pub const COMMAND: Command = Command { name: "read", flags: &["--us", "--csv"], values: &[], help: include_str!("help/read.txt"), run };
+pub const COMMAND: Command =
+    Command { name: "read", flags: &["--us", "--csv"], values: &["--edition"], help: include_str!("help/read.txt"), run };
 
 /// Prints the intervals, and the open time where there is some.
 fn run(arguments: &Arguments, out: &mut dyn Write) -> Result<(), Failure> {
@@ -17,13 +18,13 @@ fn run(arguments: &Arguments, out: &mut dyn Write) -> Result<(), Failure> {
     let place = place_of(track, revolution)?;
     let (csv, us) = (arguments.has("--csv"), arguments.has("--us"));
     let unit = |ticks: u64| if us { microseconds(ticks) } else { ticks.to_string() };
-    let input = Input::read(file)?;
-    input.ask_of(place, scp::revolution)?;
+    let image = Image::read(file, arguments.edition()?)?;
+    image.ask_of(place, scp::revolution)?;
     if csv {
         writeln!(out, "index,{}", if us { "microseconds" } else { "ticks" })?;
     }
     let mut index = 0_u64;
-    let open = each_interval(&input, place, |ticks| {
+    let open = each_interval(&image, place, |ticks| {
         match csv {
             true => writeln!(out, "{index},{}", unit(ticks))?,
             false => writeln!(out, "{}", unit(ticks))?,

@@ -1,7 +1,7 @@
 //! What a refusal is about: which of its cases it is, where, what was found and what was due.
 //!
-//! The verdict is always the library's. What is said here is looked up in the bytes once the library has refused, and only for that
-//! number and position; should nothing be found, the refusal's own text is said.
+//! The verdict is always the library's. What is said here is looked up in the bytes once the library has refused, by the same edition and
+//! only for that number and position; should nothing be found, the refusal's own text is said.
 
 mod claims;
 mod faults;
@@ -25,13 +25,13 @@ pub struct Asked {
 }
 
 /// A refusal of a question about a revolution, or of its rewrite.
-pub fn of_asked(image: &[u8], asked: Asked, refusal: Refusal) -> String {
+pub fn of_asked(layout: Layout, asked: Asked, refusal: Refusal) -> String {
     let text = match refusal.reason {
-        Reason::Absent => absent(image, asked.track),
-        Reason::Revolution => revolutions(image, asked),
-        Reason::Words => words(image, asked),
-        Reason::Shared => claims::shared(image, asked.track, asked.revolution),
-        _ => return of_image(image, refusal),
+        Reason::Absent => absent(layout, asked.track),
+        Reason::Revolution => revolutions(layout, asked),
+        Reason::Words => words(layout, asked),
+        Reason::Shared => claims::shared(layout, asked.track, asked.revolution),
+        _ => return of_image(layout.edition, layout.bytes, refusal),
     };
     said(refusal, text)
 }
@@ -52,26 +52,27 @@ pub fn of_too_many_words(need: u128, most: u32) -> String {
 }
 
 /// Why a track is not there.
-fn absent(image: &[u8], track: u32) -> Option<String> {
-    if track >= scp::TRACKS {
-        return Some(format!("track {track} is above {}", scp::TRACKS - 1));
+fn absent(layout: Layout, track: u32) -> Option<String> {
+    let tracks = layout.edition.tracks();
+    if track >= tracks {
+        return Some(format!("track {track} is above {}", tracks - 1));
     }
-    let present = Layout(image).entries().count() as u64;
+    let present = layout.entries().count() as u64;
     Some(format!("track {track} has no entry in the table, which has {}", counted(present, "track")))
 }
 
 /// Why a revolution is not there.
-fn revolutions(image: &[u8], asked: Asked) -> Option<String> {
-    let most = u64::from(Layout(image).revolutions());
+fn revolutions(layout: Layout, asked: Asked) -> Option<String> {
+    let most = u64::from(layout.revolutions());
     Some(format!("revolution {} of track {}: a track has {}, from 0 on", asked.revolution, asked.track, counted(most, "revolution")))
 }
 
 /// Why the new words of a revolution are not taken.
-fn words(image: &[u8], asked: Asked) -> Option<String> {
+fn words(layout: Layout, asked: Asked) -> Option<String> {
     if asked.size % 2 == 1 {
         return Some(format!("an odd number of bytes, {}", grouped(asked.size as u64)));
     }
-    let most = scp::revolution(image, asked.track, asked.revolution).ok()?.words;
+    let most = scp::revolution(layout.bytes, layout.edition, asked.track, asked.revolution).ok()?.words;
     Some(too_many(asked.size as u128 / 2, most))
 }
 
@@ -84,48 +85,58 @@ fn too_many(need: u128, most: u32) -> String {
 #[cfg(test)]
 mod tests {
     use super::*;
+    use scp::Edition;
     use scp_compare::cases::case;
     use scp_compare::question::Question;
 
     /// How many cases of the comparison are looked at.
     const CASES: u64 = 60_000;
 
+    /// Each image is judged by both editions, whichever it is made by.
     #[test]
     fn the_first_fault_is_what_the_library_refuses() {
-        let mut met = [0; 13];
+        let mut met = [[0; 13]; 2];
         for number in 0..CASES {
             let bytes = case(7, number).bytes;
-            let verdict = scp::validate(&bytes).err();
-            let faults = faults(&bytes);
-            assert_eq!(faults.first().map(|fault| fault.refusal), verdict, "case {number}: {faults:?}");
-            met[verdict.map_or(0, |refusal| usize::from(refusal.reason.number()))] += 1;
+            for (edition, met) in Edition::ALL.into_iter().zip(&mut met) {
+                let verdict = scp::validate(&bytes, edition).err();
+                let faults = faults(Layout { bytes: &bytes, edition });
+                assert_eq!(faults.first().map(|fault| fault.refusal), verdict, "case {number} by {edition}: {faults:?}");
+                met[verdict.map_or(0, |refusal| usize::from(refusal.reason.number()))] += 1;
+            }
         }
-        assert!(met.iter().all(|&met| met > 0), "a number never came up: {met:?}");
+        for (edition, met) in Edition::ALL.into_iter().zip(met) {
+            let due = |number: usize| edition.has_footer() || !matches!(number, 7 | 8);
+            assert!((0..13).all(|number| (met[number] > 0) == due(number)), "how often each number came up by {edition}: {met:?}");
+        }
     }
 
     #[test]
     fn the_reason_of_a_refused_rewrite_is_there_just_when_it_is_refused() {
-        let mut met = [0; 19];
+        let mut met = [[0; 19]; 2];
         for number in 0..CASES {
             let case = case(8, number);
             for question in &case.questions {
-                let Question::Rewrite { track, revolution, duration, words } = question else { continue };
+                let Question::Rewrite { track, revolution, duration, words, .. } = question else { continue };
                 let asked = Asked { track: *track, revolution: *revolution, size: words.len() };
-                let done = scp::rewrite(&mut case.bytes.clone(), *track, *revolution, *duration, words);
-                let shared = claims::shared(&case.bytes, *track, *revolution);
-                match done {
-                    Ok(()) => assert_eq!(shared, None, "case {number}"),
-                    Err(refusal) => {
-                        let said = of_asked(&case.bytes, asked, refusal);
-                        let start = format!("refused {} {:?}: ", refusal.reason.number(), refusal.reason);
-                        assert!(said.starts_with(&start), "case {number}: {said}");
-                        met[usize::from(refusal.reason.number())] += 1;
+                for (edition, met) in Edition::ALL.into_iter().zip(&mut met) {
+                    let layout = Layout { bytes: &case.bytes, edition };
+                    let done = scp::rewrite(&mut case.bytes.clone(), edition, *track, *revolution, *duration, words);
+                    let shared = claims::shared(layout, *track, *revolution);
+                    match done {
+                        Ok(()) => assert_eq!(shared, None, "case {number} by {edition}"),
+                        Err(refusal) => {
+                            let said = of_asked(layout, asked, refusal);
+                            let start = format!("refused {} {:?}: ", refusal.reason.number(), refusal.reason);
+                            assert!(said.starts_with(&start), "case {number} by {edition}: {said}");
+                            met[usize::from(refusal.reason.number())] += 1;
+                        }
                     }
                 }
             }
         }
         for number in [13, 14, 17, 18] {
-            assert!(met[number] > 0, "{number} never came up: {met:?}");
+            assert!(met.iter().all(|met| met[number] > 0), "{number} never came up: {met:?}");
         }
     }
 

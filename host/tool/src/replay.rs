@@ -2,20 +2,45 @@
 
 use std::io::Write;
 
-use scp::{Answer, Call, Refusal};
+use scp::{Answer, Call, Edition, Refusal};
 
 use crate::arguments::{Arguments, Command};
 use crate::checksum::{say_change, Checksum};
 use crate::destination::{Destination, Kind};
+use crate::editions;
 use crate::failure::{Failure, Status};
 use crate::files::{shown, Input};
+use crate::layout::Layout;
 use crate::numbers::number;
 use crate::reasons::{self, Asked};
 use crate::undo::{kept, Change};
 
 /// The command.
-pub const COMMAND: Command =
-    Command { name: "replay", flags: &["--force", "--in-place"], values: &["--out"], help: include_str!("help/replay.txt"), run };
+pub const COMMAND: Command = Command {
+    name: "replay",
+    flags: &["--force", "--in-place"],
+    values: &["--edition", "--out"],
+    help: include_str!("help/replay.txt"),
+    run,
+};
+
+/// A line of a file of calls.
+enum Line {
+    /// The edition of the calls after it.
+    Edition(Edition),
+    /// A call, by the edition named last.
+    Call(Edition, Call),
+}
+
+impl Line {
+    /// The call and its edition, if it is one.
+    fn call(&self) -> Option<(Edition, &Call)> {
+        match self {
+            Line::Edition(_) => None,
+            Line::Call(edition, call) => Some((*edition, call)),
+        }
+    }
+}
 
 /// What became of the calls.
 #[derive(Default)]
@@ -31,7 +56,7 @@ struct Outcome {
 /// Runs all calls on the image in memory, prints their answers, and writes the image where that is asked for.
 fn run(arguments: &Arguments, out: &mut dyn Write) -> Result<(), Failure> {
     let [file, calls] = arguments.operands(["FILE", "CALLS"])?;
-    let target = arguments.value("--out");
+    let (target, edition) = (arguments.value("--out"), arguments.edition()?);
     for flag in ["--force", "--in-place"] {
         if target.is_none() && arguments.has(flag) {
             return Err(Failure::usage(format!("{flag} is for --out, which is missing")));
@@ -43,10 +68,10 @@ fn run(arguments: &Arguments, out: &mut dyn Write) -> Result<(), Failure> {
     if destination.is_some() {
         input = input.uncut()?;
     }
-    let (lines, calls) = read_calls(&text)?;
-    let (before, first) = (Checksum::of(&input.bytes), input.copy()?);
-    let answers = scp::replay(&mut input.bytes, &calls);
-    let outcome = say_answers(first, (&lines, &calls), answers, out)?;
+    let lines = read_lines(&text, edition)?;
+    let (before, first) = (Checksum::of_any(&input.bytes), input.copy()?);
+    let answers = scp::replay_mixed(&mut input.bytes, lines.iter().filter_map(|(_, line)| line.call()));
+    let outcome = say_answers(first, &lines, answers, out)?;
     if let (Some(destination), Some(target)) = (destination, target) {
         if outcome.unmade {
             return Err(Failure::refused(format!("{}: not written, since a rewrite is refused", shown(target))));
@@ -56,7 +81,7 @@ fn run(arguments: &Arguments, out: &mut dyn Write) -> Result<(), Failure> {
         for line in &outcome.shorter {
             writeln!(out, "{line}: {}; its former words {}", Change::SHORTER, kept(arguments, &input))?;
         }
-        if let (Ok(before), Ok(after)) = (before, Checksum::of(&input.bytes)) {
+        if let (Some(before), Some(after)) = (before, Checksum::of_any(&input.bytes)) {
             say_change(out, &before, &after)?;
         }
     }
@@ -66,22 +91,32 @@ fn run(arguments: &Arguments, out: &mut dyn Write) -> Result<(), Failure> {
     }
 }
 
-/// Prints a line for each call. The rewrites are made once more on the first image, so that the reason of a refusal is looked up in the bytes
-/// that it is about.
+/// Prints each line, with the answer where it is a call. The rewrites are made once more on the first image, so that the reason of a refusal
+/// is looked up in the bytes that it is about.
 fn say_answers(
     mut image: Vec<u8>,
-    (lines, calls): (&[usize], &[Call]),
+    lines: &[(usize, Line)],
     answers: Vec<Result<Answer, Refusal>>,
     out: &mut dyn Write,
 ) -> Result<Outcome, Failure> {
-    let mut outcome = Outcome::default();
-    for ((&line, call), answer) in lines.iter().zip(calls).zip(answers) {
+    let (mut outcome, mut answers) = (Outcome::default(), answers.into_iter());
+    for (number, line) in lines {
+        let (edition, call) = match line {
+            Line::Edition(edition) => {
+                writeln!(out, "{number}: edition {edition}")?;
+                continue;
+            }
+            Line::Call(edition, call) => (*edition, call),
+        };
+        // Each call has one.
+        let Some(answer) = answers.next() else { break };
         outcome.refused |= answer.is_err();
         outcome.unmade |= answer.is_err() && matches!(call, Call::Rewrite { .. });
-        let answer = answer.map_or_else(|refusal| reasons::of_asked(&image, asked(call), refusal), say_answer);
-        writeln!(out, "{line}: {}: {answer}", say_call(call))?;
-        if follow(&mut image, call) {
-            outcome.shorter.push(line);
+        let layout = Layout { bytes: &image, edition };
+        let answer = answer.map_or_else(|refusal| reasons::of_asked(layout, asked(call), refusal), say_answer);
+        writeln!(out, "{number}: {}: {answer}", say_call(call))?;
+        if follow(&mut image, edition, call) {
+            outcome.shorter.push(*number);
         }
     }
     Ok(outcome)
@@ -101,27 +136,37 @@ fn asked(call: &Call) -> Asked {
 }
 
 /// Makes a call once more, if it is a rewrite; gives whether it made its revolution shorter.
-fn follow(image: &mut [u8], call: &Call) -> bool {
+fn follow(image: &mut [u8], edition: Edition, call: &Call) -> bool {
     let Call::Rewrite { track, revolution, duration, words } = call else { return false };
-    let before = scp::revolution(image, *track, *revolution).map_or(0, |found| found.words as usize);
-    scp::rewrite(image, *track, *revolution, *duration, words).is_ok() && words.len() / 2 < before
+    let before = scp::revolution(image, edition, *track, *revolution).map_or(0, |found| found.words as usize);
+    scp::rewrite(image, edition, *track, *revolution, *duration, words).is_ok() && words.len() / 2 < before
 }
 
-/// The calls of a file, and the numbers of their lines.
-fn read_calls(input: &Input) -> Result<(Vec<usize>, Vec<Call>), Failure> {
-    let mut found = (Vec::new(), Vec::new());
+/// The lines of a file with their numbers; the calls before the first line that names an edition are by the one given.
+fn read_lines(input: &Input, mut edition: Edition) -> Result<Vec<(usize, Line)>, Failure> {
+    let mut lines = Vec::new();
     for (number, line) in input.lines() {
-        let call = read_call(line?).map_err(|message| input.bad_line(number, message))?;
-        found.0.push(number);
-        found.1.push(call);
+        let line = read_line(line?, edition).map_err(|message| input.bad_line(number, message))?;
+        if let Line::Edition(named) = line {
+            edition = named;
+        }
+        lines.push((number, line));
     }
-    Ok(found)
+    Ok(lines)
 }
 
-/// The call of a line.
-fn read_call(line: &str) -> Result<Call, String> {
+/// A line; a call is by the edition given.
+fn read_line(line: &str, edition: Edition) -> Result<Line, String> {
     let words: Vec<&str> = line.split_whitespace().collect();
-    Ok(match words[..] {
+    match words[..] {
+        ["edition", name] => editions::named(name).map(Line::Edition),
+        _ => read_call(&words).map(|call| Line::Call(edition, call)),
+    }
+}
+
+/// The call of a line's words.
+fn read_call(words: &[&str]) -> Result<Call, String> {
+    Ok(match *words {
         ["validate"] => Call::Validate,
         ["header"] => Call::Header,
         ["footer"] => Call::Footer,
@@ -141,6 +186,7 @@ fn read_call(line: &str) -> Result<Call, String> {
 /// What is wrong with a line that is no call.
 fn usage(name: &str) -> String {
     let due = match name {
+        "edition" => "1.4 or 1.6",
         "validate" | "header" | "footer" => "nothing after it",
         "track" | "track-speed" => "TRACK",
         "revolution" | "flux" | "speed" => "TRACK REV",

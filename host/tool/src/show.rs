@@ -5,33 +5,23 @@ mod refused;
 use std::fmt::Display;
 use std::io::{self, Write};
 
-use scp::{Footer, Header, Reason, Refusal, STRING_NAMES};
+use scp::{Edition, Footer, Header, Reason, Refusal, STRING_NAMES};
 
 use crate::arguments::{Arguments, Command};
 use crate::checksum::Checksum;
 use crate::dates::utc;
 use crate::failure::{Failure, Status};
-use crate::faults::of_image;
-use crate::files::Input;
-use crate::flux::count_intervals;
+use crate::files::at_least;
+use crate::flux::count_intervals_of;
+use crate::image::Image;
 use crate::numbers::{grouped, milliseconds};
 use crate::reasons::Fault;
 
 /// The command.
-pub const COMMAND: Command = Command { name: "show", flags: &[], values: &[], help: include_str!("help/show.txt"), run };
+pub const COMMAND: Command = Command { name: "show", flags: &[], values: &["--edition"], help: include_str!("help/show.txt"), run };
 
 /// The versions of the footer, in order.
 const VERSIONS: [&str; 4] = ["software version", "hardware version", "firmware version", "format version"];
-
-/// The known bits of FLAGS with what they mean when clear and when set.
-const FLAGS: [(&str, &str, &str); 6] = [
-    ("index", "flux starts anywhere on the track", "flux starts at the index"),
-    ("TPI", "48 TPI drive", "96 TPI drive"),
-    ("RPM", "300 rpm drive", "360 rpm drive"),
-    ("type", "flux as read", "flux normalized"),
-    ("read/write", "read-only", "read/write"),
-    ("footer", "no footer", "footer"),
-];
 
 /// The disk types that the text of the format names.
 const DISKS: [(u8, &str); 22] = [
@@ -62,38 +52,37 @@ const DISKS: [(u8, &str); 22] = [
 /// Shows an image: where it is refused the refusal first, and then what can still be read.
 fn run(arguments: &Arguments, out: &mut dyn Write) -> Result<(), Failure> {
     let [file] = arguments.operands(["FILE"])?;
-    let input = Input::read(file)?;
-    let Err(refusal) = scp::validate(&input.bytes) else { return show(&input, out) };
-    writeln!(out, "{}: {}", input.name, of_image(&input.bytes, refusal))?;
-    match scp::header(&input.bytes) {
+    let image = Image::read(file, arguments.edition()?)?;
+    let Err(refusal) = scp::validate(&image.input.bytes, image.edition) else { return show(&image, out) };
+    writeln!(out, "{}: {}", image.input.name, image.reason(refusal))?;
+    match scp::header(&image.input.bytes, image.edition) {
         Ok(_) => {
             writeln!(out, "The image opens, so that all of it can be read:\n")?;
-            show(&input, out)?;
+            show(&image, out)?;
         }
         Err(_) => {
             writeln!(out, "UNCHECKED: the image does not open; what follows is what its bytes say:\n")?;
-            refused::show(&input, out)?;
+            refused::show(&image, out)?;
         }
     }
     Err(Failure::Said(Status::Refused))
 }
 
 /// Shows an image that opens.
-fn show(input: &Input, out: &mut dyn Write) -> Result<(), Failure> {
-    let header = input.ask(scp::header)?;
-    let footer = input.ask(scp::footer)?;
-    let checksum = input.ask(Checksum::of)?;
-    let tracks = input.ask(scp::tracks)?;
-    field(out, "image", &input.name)?;
-    field(out, "size", format!("{} bytes", grouped(input.bytes.len() as u64)))?;
-    say_header(&header, &format!("{} present", tracks.len()), out)?;
+fn show(image: &Image, out: &mut dyn Write) -> Result<(), Failure> {
+    let header = image.ask(scp::header)?;
+    let footer = image.ask(scp::footer)?;
+    let checksum = image.ask(Checksum::of)?;
+    let tracks = image.ask(scp::tracks)?;
+    say_file(image, out)?;
+    say_header(&header, image.edition, &format!("{} present", tracks.len()), out)?;
     field(out, "checksum", &checksum)?;
     match footer {
-        Some(footer) => say_footer(&input.bytes, &footer, &[], out)?,
+        Some(footer) => say_footer(&image.input.bytes, &footer, &[], out)?,
         None => field(out, "footer", "none")?,
     }
-    say_tracks(input, &tracks, out)?;
-    say_revolutions(input, &tracks, out)
+    say_tracks(image, &tracks, out)?;
+    say_revolutions(image, &tracks, out)
 }
 
 /// A line with a name and a value.
@@ -101,8 +90,16 @@ pub fn field(out: &mut dyn Write, name: &str, value: impl Display) -> io::Result
     writeln!(out, "{name:<20}{value}")
 }
 
+/// Which file it is, by which edition it is read, and how long it is.
+fn say_file(image: &Image, out: &mut dyn Write) -> io::Result<()> {
+    let bytes = &image.input.bytes;
+    field(out, "image", &image.input.name)?;
+    field(out, "read as", format!("revision {}", image.edition))?;
+    field(out, "size", format!("{}{} bytes", at_least(bytes), grouped(bytes.len() as u64)))
+}
+
 /// The fields of the header, decoded, with what is said of the tracks.
-fn say_header(header: &Header, tracks: &str, out: &mut dyn Write) -> io::Result<()> {
+fn say_header(header: &Header, edition: Edition, tracks: &str, out: &mut dyn Write) -> io::Result<()> {
     let disk = DISKS.iter().find(|(disk, _)| *disk == header.disk).map_or("not named by the format", |(_, name)| name);
     let heads = match header.heads {
         0 => "both",
@@ -115,12 +112,25 @@ fn say_header(header: &Header, tracks: &str, out: &mut dyn Write) -> io::Result<
     field(out, "revolutions", format!("{} for each track", header.revolutions))?;
     field(out, "tracks", format!("{} to {}, {tracks}", header.start, header.end))?;
     field(out, "flags", format!("0x{:02X}", header.flags))?;
-    for (bit, (name, clear, set)) in FLAGS.into_iter().enumerate() {
+    for (bit, (name, clear, set)) in flags(edition).into_iter().enumerate() {
         field(out, &format!("  {name}"), if header.flags & (1 << bit) == 0 { clear } else { set })?;
     }
     let width = if matches!(header.width, 0 | 16) { "16 bits" } else { "neither 0 nor 16" };
     field(out, "word width", format!("{} ({width})", header.width))?;
     field(out, "heads", format!("{} ({heads})", header.heads))
+}
+
+/// The known bits of FLAGS with what they mean when clear and when set.
+fn flags(edition: Edition) -> [(&'static str, &'static str, &'static str); 6] {
+    let footer = if edition.has_footer() { "footer" } else { "set, but revision 1.4 has no footer" };
+    [
+        ("index", "flux starts anywhere on the track", "flux starts at the index"),
+        ("TPI", "48 TPI drive", "96 TPI drive"),
+        ("RPM", "300 rpm drive", "360 rpm drive"),
+        ("type", "flux as read", "flux normalized"),
+        ("read/write", "read-only", "read/write"),
+        ("footer", "no footer", footer),
+    ]
 }
 
 /// A version byte, a nibble each side of the point.
@@ -162,11 +172,11 @@ fn rpm(speed: Option<f64>) -> String {
 }
 
 /// The table of tracks.
-fn say_tracks(input: &Input, tracks: &[u32], out: &mut dyn Write) -> Result<(), Failure> {
+fn say_tracks(image: &Image, tracks: &[u32], out: &mut dyn Write) -> Result<(), Failure> {
     writeln!(out, "\ntrack cylinder head     offset revolutions    slowest rpm    fastest rpm")?;
     for &track in tracks {
-        let found = input.ask_of((track, 0), |image, track, _| scp::track(image, track))?;
-        let speeds = input.ask_of((track, 0), |image, track, _| scp::track_speed(image, track))?;
+        let found = image.ask_of((track, 0), |bytes, edition, track, _| scp::track(bytes, edition, track))?;
+        let speeds = image.ask_of((track, 0), |bytes, edition, track, _| scp::track_speed(bytes, edition, track))?;
         let (slowest, fastest) = speeds.map(|speeds| (speeds.slowest, speeds.fastest)).unzip();
         let (cylinder, head, offset, revolutions) = (found.cylinder, found.head, found.offset, found.revolutions);
         let (slowest, fastest) = (rpm(slowest), rpm(fastest));
@@ -176,16 +186,15 @@ fn say_tracks(input: &Input, tracks: &[u32], out: &mut dyn Write) -> Result<(), 
 }
 
 /// The table of revolutions.
-fn say_revolutions(input: &Input, tracks: &[u32], out: &mut dyn Write) -> Result<(), Failure> {
-    let revolutions = input.ask(scp::header)?.revolutions;
+fn say_revolutions(image: &Image, tracks: &[u32], out: &mut dyn Write) -> Result<(), Failure> {
+    let revolutions = image.ask(scp::header)?.revolutions;
     writeln!(out, "\ntrack rev      ticks            ms      words  intervals    open ticks            rpm")?;
     for &track in tracks {
         for revolution in 0..u32::from(revolutions) {
             let place = (track, revolution);
-            let found = input.ask_of(place, scp::revolution)?;
-            let speed = rpm(input.ask_of(place, scp::speed)?);
-            let (intervals, open) =
-                input.ask_of(place, |image, track, revolution| count_intervals(scp::flux(image, track, revolution)?))?;
+            let found = image.ask_of(place, scp::revolution)?;
+            let speed = rpm(image.ask_of(place, scp::speed)?);
+            let (intervals, open) = count_intervals_of(image, place)?;
             let (ticks, ms, words) = (found.duration, milliseconds(u64::from(found.duration)), found.words);
             writeln!(out, "{track:>5} {revolution:>3} {ticks:>10} {ms:>13} {words:>10} {intervals:>10} {open:>13} {speed:>14}")?;
         }

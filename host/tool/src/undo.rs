@@ -2,12 +2,16 @@
 
 use std::fmt::Write;
 
+use scp::Edition;
+
 use crate::arguments::Arguments;
 use crate::failure::Failure;
 use crate::files::{Input, GREATEST};
 
 /// A patch of a revolution: what it was before and what it is now.
 pub struct Change {
+    /// The edition that the image is read by.
+    pub edition: Edition,
     /// The track.
     pub track: u32,
     /// The revolution of the track.
@@ -36,13 +40,17 @@ impl Change {
         self.words.1 < self.words.0
     }
 
-    /// The call that puts the former duration and words back, after comments that say so.
+    /// The call that puts the former duration and words back, after comments that say so, and after its edition unless replay takes that
+    /// anyway.
     pub fn undo(&self, former: &[u8], from: &str, to: &str) -> Result<String, Failure> {
-        let Change { track, revolution, duration, words } = self;
+        let Change { edition, track, revolution, duration, words } = self;
         let mut text = format!("# takes back \"fluxproof patch\": track {track} revolution {revolution} of {from}, rewritten in {to}, ");
         text += &format!("duration {} -> {}, words {} -> {}\n", duration.0, duration.1, words.0, words.1);
         if self.is_shorter() {
             text += &format!("# {}; its former words are kept here, but replay refuses to put them back\n", Change::SHORTER);
+        }
+        if *edition != Edition::V1_6 {
+            text += &format!("edition {edition}\n");
         }
         text += &format!("rewrite {track} {revolution} {}", duration.0);
         for word in former.chunks_exact(2) {

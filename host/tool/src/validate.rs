@@ -5,22 +5,20 @@ use std::io::Write;
 
 use crate::arguments::{Arguments, Command};
 use crate::failure::{Failure, Status};
-use crate::faults::{of_image, Refused};
+use crate::faults::{of_image, Rules};
 use crate::files::Input;
 
 /// The command.
-pub const COMMAND: Command = Command { name: "validate", flags: &["--all"], values: &[], help: include_str!("help/validate.txt"), run };
+pub const COMMAND: Command =
+    Command { name: "validate", flags: &["--all"], values: &["--edition"], help: include_str!("help/validate.txt"), run };
 
 /// Validates each file as an SCP image.
 fn run(arguments: &Arguments, out: &mut dyn Write) -> Result<(), Failure> {
-    each_file(arguments, scp::validate, out)
+    each_file(arguments, arguments.edition()?, out)
 }
 
-/// What a library says of an image.
-type Judge<R> = fn(&[u8]) -> Result<(), R>;
-
 /// Has each file judged, also after one that fails.
-pub fn each_file<R: Refused>(arguments: &Arguments, judge: Judge<R>, out: &mut dyn Write) -> Result<(), Failure> {
+pub fn each_file(arguments: &Arguments, rules: impl Rules, out: &mut dyn Write) -> Result<(), Failure> {
     if arguments.operands.is_empty() {
         return Err(Failure::usage("FILE is missing"));
     }
@@ -29,7 +27,7 @@ pub fn each_file<R: Refused>(arguments: &Arguments, judge: Judge<R>, out: &mut d
     }
     let mut worst = Ok(());
     for file in &arguments.operands {
-        let (lines, verdict) = verdict(file, judge, arguments.has("--all"));
+        let (lines, verdict) = verdict(file, rules, arguments.has("--all"));
         worst = worst.max(verdict);
         for line in lines {
             writeln!(out, "{line}")?;
@@ -39,17 +37,17 @@ pub fn each_file<R: Refused>(arguments: &Arguments, judge: Judge<R>, out: &mut d
 }
 
 /// The line of a file, with all its faults one for each, and whether it passes.
-fn verdict<R: Refused>(file: &OsStr, judge: Judge<R>, all: bool) -> (Vec<String>, Result<(), Status>) {
+fn verdict(file: &OsStr, rules: impl Rules, all: bool) -> (Vec<String>, Result<(), Status>) {
     let input = match Input::try_read(file) {
         Err(message) => return (vec![message], Err(Status::File)),
         Ok(input) => input,
     };
-    match judge(&input.bytes) {
+    match rules.validate(&input.bytes) {
         Ok(()) => (vec![format!("{}: ok", input.name)], Ok(())),
         Err(refusal) => {
-            let mut lines = vec![format!("{}: {}", input.name, of_image(&input.bytes, refusal))];
+            let mut lines = vec![format!("{}: {}", input.name, of_image(rules, &input.bytes, refusal))];
             if all {
-                lines.extend(others(&input, refusal));
+                lines.extend(others(&input, rules, refusal));
             }
             (lines, Err(Status::Refused))
         }
@@ -57,8 +55,8 @@ fn verdict<R: Refused>(file: &OsStr, judge: Judge<R>, all: bool) -> (Vec<String>
 }
 
 /// A line for each fault but the one that is refused.
-fn others<R: Refused>(input: &Input, refusal: R) -> Vec<String> {
-    let mut faults = R::faults(&input.bytes);
+fn others<R: Rules>(input: &Input, rules: R, refusal: R::Refusal) -> Vec<String> {
+    let mut faults = rules.faults(&input.bytes);
     if let Some(first) = faults.iter().position(|fault| fault.refusal == refusal) {
         faults.remove(first);
     }

@@ -5,7 +5,7 @@ use std::fmt::Debug;
 use dsk::{Block, Geometry, Reason, Refusal};
 
 use super::layout::{sector_size, Layout, Place, GREATEST_CODE, INFORMATION, MOST_SECTORS, NAME, SIGN};
-use crate::faults::Refused;
+use crate::faults::{Refused, Rules};
 use crate::numbers::{counted, grouped, hexadecimal};
 
 /// A fault of a DSK image.
@@ -15,8 +15,20 @@ impl Refused for Refusal {
     fn reason(&self) -> (u8, &dyn Debug) {
         (self.reason.number(), &self.reason)
     }
+}
 
-    fn faults(image: &[u8]) -> Vec<Fault> {
+/// The rules of standard DSK images.
+#[derive(Clone, Copy)]
+pub struct Standard;
+
+impl Rules for Standard {
+    type Refusal = Refusal;
+
+    fn validate(self, image: &[u8]) -> Result<(), Refusal> {
+        dsk::validate(image)
+    }
+
+    fn faults(self, image: &[u8]) -> Vec<Fault> {
         let mut search = Search { layout: Layout(image), found: Vec::new() };
         search.sign();
         search.least_length();
@@ -165,7 +177,7 @@ mod tests {
         for number in 0..60_000 {
             let image = image(&mut Random::of_case(9, number));
             let verdict = dsk::validate(&image).err();
-            let faults = Refusal::faults(&image);
+            let faults = Standard.faults(&image);
             assert_eq!(faults.first().map(|fault| fault.refusal), verdict, "case {number}: {faults:?}");
             met[verdict.map_or(0, |refusal| usize::from(refusal.reason.number()) - 29)] += 1;
         }

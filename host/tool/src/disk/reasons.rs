@@ -2,6 +2,7 @@
 
 use dsk::{Reason, Refusal};
 
+use super::faults::Standard;
 use super::layout::Layout;
 use crate::failure::Failure;
 use crate::faults::{of_image, said};
@@ -34,7 +35,7 @@ fn of_asked(image: &[u8], asked: Asked, refusal: Refusal) -> String {
     match refusal.reason {
         Reason::Absent => said(refusal, absent(image, asked)),
         Reason::Sector => said(refusal, sectors(image, asked)),
-        _ => of_image(image, refusal),
+        _ => of_image(Standard, image, refusal),
     }
 }
 

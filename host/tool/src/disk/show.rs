@@ -2,15 +2,15 @@
 
 use std::io::{self, Write};
 
-use dsk::{Geometry, Reason, Refusal, Sector};
+use dsk::{Geometry, Reason, Sector};
 
 use super::contents::{self, Found};
-use super::faults::Fault;
+use super::faults::{Fault, Standard};
 use super::layout::{sector_size, Layout, Place, INFORMATION};
 use super::notes;
 use crate::arguments::{Arguments, Command};
 use crate::failure::{Failure, Status};
-use crate::faults::{of_image, Refused};
+use crate::faults::{of_image, Rules};
 use crate::files::{at_least, Input};
 use crate::numbers::{counted, grouped};
 use crate::show::field;
@@ -29,10 +29,10 @@ fn run(arguments: &Arguments, out: &mut dyn Write) -> Result<(), Failure> {
     match contents::accepted(&input.bytes) {
         Ok((geometry, found)) => Ok(Show { input: &input, layout, geometry: Some(geometry), found, faults: Vec::new() }.say(out)?),
         Err(refusal) => {
-            writeln!(out, "{}: {}", input.name, of_image(&input.bytes, refusal))?;
+            writeln!(out, "{}: {}", input.name, of_image(Standard, &input.bytes, refusal))?;
             writeln!(out, "UNCHECKED: the image is refused; what follows is what its bytes say:\n")?;
             let (geometry, found) = (layout.geometry(), contents::refused(layout));
-            Show { input: &input, layout, geometry, found, faults: Refusal::faults(&input.bytes) }.say(out)?;
+            Show { input: &input, layout, geometry, found, faults: Standard.faults(&input.bytes) }.say(out)?;
             Err(Failure::Said(Status::Refused))
         }
     }

@@ -2,6 +2,7 @@
 
 use std::io::Write;
 
+use super::faults::Standard;
 use crate::arguments::{Arguments, Command};
 use crate::failure::Failure;
 use crate::validate::each_file;
@@ -12,5 +13,5 @@ pub const COMMAND: Command =
 
 /// Validates each file as a DSK image.
 fn run(arguments: &Arguments, out: &mut dyn Write) -> Result<(), Failure> {
-    each_file(arguments, dsk::validate, out)
+    each_file(arguments, Standard, out)
 }

@@ -1,8 +1,8 @@
 //! What is drawn: a revolution with its intervals.
 
 use crate::failure::Failure;
-use crate::files::Input;
 use crate::flux::each_interval;
+use crate::image::Image;
 
 /// A revolution to be drawn.
 pub struct Subject {
@@ -28,17 +28,17 @@ pub struct Subject {
 
 impl Subject {
     /// Asks the library for all that is drawn.
-    pub fn of(input: &Input, (track, revolution): (u32, u32)) -> Result<Subject, Failure> {
+    pub fn of(image: &Image, (track, revolution): (u32, u32)) -> Result<Subject, Failure> {
         let place = (track, revolution);
-        let on = input.ask_of(place, |image, track, _| scp::track(image, track))?;
-        let found = input.ask_of(place, scp::revolution)?;
-        let rpm = input.ask_of(place, scp::speed)?;
+        let on = image.ask_of(place, |bytes, edition, track, _| scp::track(bytes, edition, track))?;
+        let found = image.ask_of(place, scp::revolution)?;
+        let rpm = image.ask_of(place, scp::speed)?;
         let mut intervals = Vec::new();
-        let open = each_interval(input, place, |ticks| {
+        let open = each_interval(image, place, |ticks| {
             intervals.push(ticks);
             Ok(())
         })?;
-        let (name, duration) = (input.name.clone(), found.duration);
+        let (name, duration) = (image.input.name.clone(), found.duration);
         Ok(Subject { name, track, cylinder: on.cylinder, head: on.head, revolution, duration, rpm, intervals, open })
     }
 

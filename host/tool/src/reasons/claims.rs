@@ -4,15 +4,14 @@ use std::ops::Range;
 
 use scp::STRING_NAMES;
 
-use crate::layout::{Layout, TABLE_END};
+use crate::layout::Layout;
 use crate::numbers::grouped;
 
 /// Bytes of an image, and what they are.
 type Part = (Range<u64>, String);
 
 /// What shares a byte with the rewrite of a revolution of an image that opens, if anything does.
-pub fn shared(image: &[u8], track: u32, revolution: u32) -> Option<String> {
-    let layout = Layout(image);
+pub fn shared(layout: Layout, track: u32, revolution: u32) -> Option<String> {
     let (_, header) = layout.entries().find(|&(present, _)| present == track)?;
     let record = Layout::record_offset(header, revolution);
     let found = layout.revolution(header, revolution)?;
@@ -37,7 +36,7 @@ fn overlap(left: &Range<u64>, right: &Range<u64>) -> Option<u64> {
 
 /// All that is claimed by others than the rewrite of a revolution.
 fn claims(layout: Layout, (track, revolution): (u32, u32)) -> Option<Vec<Part>> {
-    let mut claims: Vec<Part> = vec![(0..TABLE_END as u64, "the header and the table".to_string())];
+    let mut claims: Vec<Part> = vec![(0..layout.table_end(), "the header and the table".to_string())];
     for (other, header) in layout.entries() {
         let (end, name) = (header + layout.track_header_size(), format!("the header of track {other}"));
         if other == track {
@@ -53,7 +52,7 @@ fn claims(layout: Layout, (track, revolution): (u32, u32)) -> Option<Vec<Part>> 
         }
     }
     if let Some((footer, _)) = layout.footer() {
-        claims.push((layout.end()..layout.0.len() as u64, "the footer".to_string()));
+        claims.push((layout.end()..layout.len(), "the footer".to_string()));
         for (name, offset) in STRING_NAMES.into_iter().zip(footer.strings).filter(|(_, offset)| *offset != 0) {
             let (start, size) = (u64::from(offset), u64::from(u16::from_le_bytes(layout.array(offset.into())?)));
             claims.push((start..start + 2 + size + 1, format!("the string {name}")));

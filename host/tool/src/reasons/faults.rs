@@ -2,10 +2,10 @@
 
 use std::fmt::Debug;
 
-use scp::{Footer, Header, Reason, Refusal, LONGEST_IMAGE, STRING_NAMES, TRACKS};
+use scp::{Footer, Header, Reason, Refusal, LONGEST_IMAGE, STRING_NAMES};
 
 use crate::faults::Refused;
-use crate::layout::{Layout, TrackHeader, FOOTER_SIGN, LEAST_WITH_FOOTER, TABLE_END};
+use crate::layout::{Layout, TrackHeader, FOOTER_SIGN};
 use crate::numbers::{counted, grouped, hexadecimal};
 
 /// The format version of the oldest footer.
@@ -18,23 +18,17 @@ impl Refused for Refusal {
     fn reason(&self) -> (u8, &dyn Debug) {
         (self.reason.number(), &self.reason)
     }
-
-    fn faults(image: &[u8]) -> Vec<Fault> {
-        faults(image)
-    }
 }
 
 /// All faults that can be told apart; none for an image that the library accepts.
-pub fn faults(image: &[u8]) -> Vec<Fault> {
-    let mut search = Search { layout: Layout(image), found: Vec::new() };
+pub fn faults(layout: Layout) -> Vec<Fault> {
+    let mut search = Search { layout, found: Vec::new() };
     search.size();
-    if let Some(header) = search.layout.header() {
+    if let Some(header) = layout.header() {
         search.header(&header);
-        if !search.layout.is_cut() {
+        if !layout.is_cut() {
             search.footer(&header);
             search.tracks(&header);
-        }
-        if (TABLE_END..=LONGEST_IMAGE).contains(&image.len()) {
             search.sum(&header);
         }
     }
@@ -60,9 +54,9 @@ impl Search<'_> {
 
     /// The length.
     fn size(&mut self) {
-        let size = self.layout.0.len();
-        if size < TABLE_END {
-            self.note(Reason::Size, format!("{size} bytes, fewer than {TABLE_END}"));
+        let (size, least) = (self.layout.len(), self.layout.table_end());
+        if size < least {
+            self.note(Reason::Size, format!("{size} bytes, fewer than {least}"));
         } else if self.layout.is_cut() {
             self.note(Reason::Size, format!("more than {} bytes", grouped(LONGEST_IMAGE as u64)));
         }
@@ -73,7 +67,7 @@ impl Search<'_> {
         let Header { revolutions, start, end, width, heads, .. } = *header;
         let sign = self.layout.array::<3>(0).unwrap_or_default();
         if sign != *b"SCP" {
-            let other = if self.layout.0.starts_with(b"MV - CPC") { " (a DSK image?)" } else { "" };
+            let other = if self.layout.bytes.starts_with(b"MV - CPC") { " (a DSK image?)" } else { "" };
             self.note(Reason::Sign, format!("the first three bytes are {}{other}, not SCP", hexadecimal(&sign)));
         }
         if width != 0 && width != 16 {
@@ -87,8 +81,8 @@ impl Search<'_> {
         if start > end {
             self.note(Reason::Span, format!("the start track {start} is above the end track {end}"));
         }
-        if u32::from(end) >= TRACKS {
-            self.note(Reason::Span, format!("the end track {end} is above {}", TRACKS - 1));
+        if u32::from(end) >= self.layout.edition.tracks() {
+            self.note(Reason::Span, format!("the end track {end} is above {}", self.layout.edition.tracks() - 1));
         }
         if heads > 2 {
             self.note(Reason::Heads, format!("byte 0x0A is {heads}, not 0, 1 or 2"));
@@ -97,11 +91,10 @@ impl Search<'_> {
 
     /// The footer, and its strings where it is one.
     fn footer(&mut self, header: &Header) {
-        let size = self.layout.0.len();
         let Some((footer, sign)) = self.layout.footer() else {
             if self.layout.has_footer() {
-                let text = format!("FLAGS 0x{:02X} announces one, but {size} bytes are fewer than {LEAST_WITH_FOOTER}", header.flags);
-                self.note(Reason::Footer, text);
+                let (flags, size, least) = (header.flags, self.layout.len(), self.layout.least_with_footer());
+                self.note(Reason::Footer, format!("FLAGS 0x{flags:02X} announces one, but {size} bytes are fewer than {least}"));
             }
             return;
         };
@@ -123,7 +116,7 @@ impl Search<'_> {
 
     /// What is wrong with the string at an offset, if anything is.
     fn string(&self, offset: u64) -> Option<String> {
-        let (start, end) = (TABLE_END as u64, self.layout.end());
+        let (start, end) = (self.layout.table_end(), self.layout.end());
         if offset == 0 {
             return None;
         }
@@ -162,7 +155,7 @@ impl Search<'_> {
     /// Whether a track may be there; a span or side that is refused itself says nothing of it.
     fn slot(&mut self, header: &Header, track: u32) {
         let (start, end) = (u32::from(header.start), u32::from(header.end));
-        if start <= end && end < TRACKS && !(start..=end).contains(&track) {
+        if start <= end && end < self.layout.edition.tracks() && !(start..=end).contains(&track) {
             self.note_at(Reason::Slot, track, format!("track {track} has an entry, but the tracks are {start} to {end}"));
         }
         let held = match header.heads {
@@ -181,7 +174,7 @@ impl Search<'_> {
         let text = match self.layout.track_header(entry) {
             TrackHeader::Of(number) if u32::from(number) == track => return true,
             TrackHeader::Of(number) => format!("its header at {at} is that of track {number}"),
-            TrackHeader::TooLow => format!("its header at {at} is below {TABLE_END}"),
+            TrackHeader::TooLow => format!("its header at {at} is below {}", self.layout.table_end()),
             TrackHeader::TooHigh(past) => {
                 let size = grouped(self.layout.track_header_size());
                 format!("its header of {size} bytes at {at} ends at {}, past {end}", grouped(past))
@@ -206,8 +199,11 @@ impl Search<'_> {
         }
     }
 
-    /// The checksum.
+    /// The checksum, where the table is whole.
     fn sum(&mut self, header: &Header) {
+        if self.layout.len() < self.layout.table_end() {
+            return;
+        }
         let (stored, sum) = (header.checksum, self.layout.sum());
         if header.is_read_write() {
             if stored != 0 {

@@ -4,37 +4,35 @@ use std::io::{self, Write};
 
 use scp::Reason;
 
-use super::{fault, field, say_footer, say_header};
-use crate::files::{at_least, Input};
+use super::{fault, field, say_file, say_footer, say_header};
 use crate::flux::count_intervals;
-use crate::layout::{Layout, TrackHeader, FOOTER_SIGN, TABLE_END};
-use crate::numbers::{grouped, milliseconds};
+use crate::image::Image;
+use crate::layout::{Layout, TrackHeader, FOOTER_SIGN};
+use crate::numbers::milliseconds;
 use crate::reasons::{faults, Fault};
 
 /// The faults that a track can have.
 const OF_TRACKS: [Reason; 3] = [Reason::Slot, Reason::Track, Reason::Flux];
 
 /// Shows what is there of size, header, checksum, footer, tracks and revolutions.
-pub fn show(input: &Input, out: &mut dyn Write) -> io::Result<()> {
-    let layout = Layout(&input.bytes);
-    let size = grouped(input.bytes.len() as u64);
-    field(out, "image", &input.name)?;
-    field(out, "size", format!("{}{size} bytes", at_least(&input.bytes)))?;
+pub fn show(image: &Image, out: &mut dyn Write) -> io::Result<()> {
+    let layout = image.layout();
+    say_file(image, out)?;
     let Some(header) = layout.header() else {
         return field(out, "header", "not there");
     };
-    let present = match input.bytes.len() < TABLE_END {
+    let present = match layout.len() < layout.table_end() {
         true => "which are present is cut off".to_string(),
         false => format!("{} present", layout.entries().count()),
     };
-    say_header(&header, &present, out)?;
+    say_header(&header, image.edition, &present, out)?;
     if layout.is_cut() {
         return Ok(());
     }
-    let faults = faults(&input.bytes);
+    let faults = faults(layout);
     field(out, "checksum", format!("stored {}, true sum {}", header.checksum, layout.sum()))?;
     match (layout.footer(), fault(&faults, Reason::Footer, 0)) {
-        (Some((footer, FOOTER_SIGN)), _) => say_footer(&input.bytes, &footer, &faults, out)?,
+        (Some((footer, FOOTER_SIGN)), _) => say_footer(layout.bytes, &footer, &faults, out)?,
         (_, Some(fault)) => field(out, "footer", fault)?,
         (_, None) => field(out, "footer", "none")?,
     }

@@ -6,6 +6,8 @@ use std::path::PathBuf;
 use std::process::{Command, Output, Stdio};
 use std::sync::atomic::{AtomicU32, Ordering};
 
+use scp::Edition;
+
 /// A folder that is removed at the end.
 pub struct Bench {
     pub folder: PathBuf,
@@ -151,9 +153,14 @@ pub fn damaged_a() -> Vec<u8> {
 /// A revolution: its duration and words.
 pub type Revolution<'a> = (u32, &'a [u16]);
 
-/// An image of tracks with their revolutions, all as many; it stores its sum.
+/// An image of revision 1.6 of tracks with their revolutions, all as many; it stores its sum.
 pub fn image(flags: u8, tracks: &[(u8, &[Revolution])]) -> Vec<u8> {
-    let mut image = vec![0; 688];
+    image_by(Edition::V1_6, flags, tracks)
+}
+
+/// The same by an edition: the tracks start where its table ends.
+pub fn image_by(edition: Edition, flags: u8, tracks: &[(u8, &[Revolution])]) -> Vec<u8> {
+    let mut image = vec![0; edition.table_end()];
     let number = |index: usize| tracks.get(index).map_or(0, |track| track.0);
     let count = tracks.first().map_or(1, |track| track.1.len());
     image[..3].copy_from_slice(b"SCP");

@@ -3,6 +3,8 @@
 use std::fs;
 use std::process::Child;
 
+use scp::Edition;
+
 use crate::bench::{image, patched_a, Bench, Revolution, Run};
 
 /// The options of a DSK image of 512 bytes of data.
@@ -139,9 +141,9 @@ fn patches_in_place_at_once_are_all_made() {
     }
     let patched = bench.get("t.scp");
     for track in 0..8 {
-        assert_eq!(scp::revolution(&patched, track, 0).map(|found| found.duration), Ok(100 + track));
+        assert_eq!(scp::revolution(&patched, Edition::V1_6, track, 0).map(|found| found.duration), Ok(100 + track));
     }
-    assert_eq!(scp::validate(&patched), Ok(()));
+    assert_eq!(scp::validate(&patched, Edition::V1_6), Ok(()));
 }
 
 #[cfg(unix)]

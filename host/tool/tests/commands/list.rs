@@ -1,5 +1,7 @@
 //! `fluxproof list`.
 
+use scp::Edition;
+
 use crate::bench::{damaged_a, image, Bench};
 
 /// The listing of image A, byte for byte.
@@ -18,7 +20,7 @@ fn every_revolution_of_every_track_has_a_line() {
     let bench = Bench::new();
     let tracks: [(u8, &[_]); 2] = [(3, &[(100, &[0, 0][..]), (0, &[])]), (167, &[(7, &[0, 5, 0]), (u32::MAX, &[65_535])])];
     bench.put("b.scp", &image(0, &tracks));
-    let sum = scp::header(&bench.get("b.scp")).expect("it opens").checksum;
+    let sum = scp::header(&bench.get("b.scp"), Edition::V1_6).expect("it opens").checksum;
     let lines = [
         &format!("ok {} tracks 2 turns 2 sum {sum}", bench.get("b.scp").len()),
         "track 3 turn 0 ticks 100 words 2 intervals 0 open 131072",

@@ -3,6 +3,7 @@
 mod bench;
 mod destinations;
 mod disk;
+mod editions;
 mod list;
 mod patch;
 mod plot;

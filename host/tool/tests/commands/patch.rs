@@ -2,6 +2,8 @@
 
 use std::fs;
 
+use scp::Edition;
+
 use crate::bench::{damaged_a, image, patched_a, store_sum, with_footer, Bench};
 
 /// A bench with the words of the example, also as times.
@@ -32,7 +34,7 @@ fn a_damaged_image_stays_damaged() {
     assert!(out.contains("checksum 981 -> 886\n"), "{out}");
     assert!(out.contains("the image was damaged before: stored 981, true sum 980: damaged\n"), "{out}");
     assert!(out.contains("and it still is: stored 886, true sum 885: damaged\n"), "{out}");
-    assert_eq!(scp::validate(&bench.get("b.scp")).map_err(|refusal| refusal.reason), Err(scp::Reason::Sum));
+    assert_eq!(scp::validate(&bench.get("b.scp"), Edition::V1_6).map_err(|refusal| refusal.reason), Err(scp::Reason::Sum));
 }
 
 #[test]
@@ -42,8 +44,8 @@ fn fewer_words_and_another_duration_are_put() {
     let out = bench.passes("patch a.scp b.scp 0 0 --duration 0xFFFFFFFF --times none.txt --empty");
     assert!(out.contains("duration 8000000 -> 4294967295\nwords 4 -> 0\n"), "{out}");
     let image = bench.get("b.scp");
-    let found = scp::revolution(&image, 0, 0).expect("it opens");
-    assert_eq!((found.duration, found.words, scp::validate(&image)), (u32::MAX, 0, Ok(())));
+    let found = scp::revolution(&image, Edition::V1_6, 0, 0).expect("it opens");
+    assert_eq!((found.duration, found.words, scp::validate(&image, Edition::V1_6)), (u32::MAX, 0, Ok(())));
 }
 
 #[test]
@@ -109,7 +111,7 @@ fn nothing_at_all_is_refused_unless_it_is_meant() {
     assert_eq!(bench.get("a.scp"), scp::example::image_a());
     for source in ["--times empty.txt", "--words empty.bin", "--times -"] {
         bench.passes(&format!("patch a.scp b.scp 0 0 --duration keep {source} --empty --force"));
-        assert_eq!(scp::revolution(&bench.get("b.scp"), 0, 0).map(|found| found.words), Ok(0));
+        assert_eq!(scp::revolution(&bench.get("b.scp"), Edition::V1_6, 0, 0).map(|found| found.words), Ok(0));
     }
     bench.passes("patch a.scp b.scp 0 0 --duration keep --words words.bin --empty --force");
     assert_eq!(bench.get("b.scp"), patched_a());

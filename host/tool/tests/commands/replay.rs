@@ -1,5 +1,7 @@
 //! `fluxproof replay`.
 
+use scp::Edition;
+
 use crate::bench::{damaged_a, image, with_footer, Bench};
 
 /// A call of each kind, a rewrite among them.
@@ -60,7 +62,7 @@ fn the_image_after_the_calls_is_written() {
     bench.put("calls.txt", b"rewrite 0 0 8000000 01400000000100F0");
     let out = bench.passes("replay a.scp calls.txt --out b.scp");
     assert_eq!(out, "1: rewrite 0 0 8000000 (8 bytes): ok\nwritten to b.scp\nchecksum 980 -> 885\n");
-    assert_eq!(scp::header(&bench.get("b.scp")).map(|header| header.checksum), Ok(885));
+    assert_eq!(scp::header(&bench.get("b.scp"), Edition::V1_6).map(|header| header.checksum), Ok(885));
     bench.fails("replay a.scp calls.txt --out b.scp", 3, "exists already");
     bench.fails("replay a.scp calls.txt --out a.scp --force", 3, "this is the image itself");
     bench.fails("replay a.scp calls.txt --force", 2, "--force is for --out");

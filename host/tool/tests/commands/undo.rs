@@ -1,5 +1,7 @@
 //! `fluxproof patch --undo`: a patch, and the calls that take it back.
 
+use scp::Edition;
+
 use crate::bench::{image, patched_a, store_sum, Bench};
 
 /// The end of a patch of image A.
@@ -37,10 +39,10 @@ fn patches_are_taken_back_byte_for_byte() {
     for flags in [0x00, 0x10] {
         let mut sound = image(flags, &[(2, &[(8_000_000, &words)]), (9, &[(u32::MAX, &words[..50])])]);
         store_sum(&mut sound);
-        assert_eq!(scp::validate(&sound), Ok(()));
+        assert_eq!(scp::validate(&sound, Edition::V1_6), Ok(()));
         let mut damaged = sound.clone();
         damaged[0x0F] ^= 0x81;
-        assert!(scp::validate(&damaged).is_err() && scp::header(&damaged).is_ok());
+        assert!(scp::validate(&damaged, Edition::V1_6).is_err() && scp::header(&damaged, Edition::V1_6).is_ok());
         for first in [sound, damaged] {
             for (track, count) in [(2, 3000), (9, 50)] {
                 let bench = Bench::new();
