@@ -1,4 +1,4 @@
--- The editions of the format, and what they differ in (V-1 to V-4): the entries of the table, and with them where it ends, and whether FLAGS
+-- The editions of the format, and what they differ in (V-1 to V-3): the entries of the table, and with them where it ends, and whether FLAGS
 -- bit 5 means a footer.
 use Prim.Native.Nat.{ℕ, _+_, _-_, _*_}
 use mathlib.Core.Bool.{Bool, true, false, cond}

@@ -1,3 +1,5 @@
+pub mod Numbers
+pub mod Editions
 pub mod Validating
 pub mod Tracks
 pub mod Durations

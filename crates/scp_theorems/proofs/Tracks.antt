@@ -1,28 +1,26 @@
 -- A track number is its cylinder and its head. The flux of a revolution lies in the image, so that the part handed out is as long as its
 -- count says, even and within the limit: no reading of it is refused with 17. What refuses the revolution has a number up to 14.
-use Prim.Native.Nat.{ℕ, zero, suc, _+_, _*_, _%_, _≤_}
+use Prim.Native.Nat.{ℕ, _*_, _%_, _≤_}
 use mathlib.Core.Path.{_≡_, refl, sym, ap, _∙_}
 use mathlib.Core.Logic.{_≢_}
 use mathlib.Core.List.{List, [], _∷_}
-use mathlib.Core.Bool.{Bool, true, false, not, cond}
+use mathlib.Core.Bool.{Bool, true, false, cond}
 use native.Mathlib.Omega.{arith}
 use lib.ListN.{length, drop, length-drop}
 use lib.Seq.{length-take-le}
 use lib.Dec.{ltb}
 use borrow.Author.Tests.{eqb-true, ne-eqb, le-ltb}
 use Rattle.refusals.specs.declared.Refusal.{Refusal}
-use Rattle.refusals.specs.Refusals.{passes, refuseIf, firstOf}
-use Rattle.refusals.specs.Search.{firstFrom}
+use Rattle.refusals.specs.Refusals.{passes}
 use Rattle.flux.specs.Coding.{wordsOf, badFluxSize, fluxLimit}
 use Rattle.flux.specs.Reading.{intervals, openTime}
 use Rattle.flux.specs.Answers.{placesRefused, wordsRefused, Filling, refuses, fills, inPlaces, reading}
 use Rattle.scp_fields.specs.declared.Edition.{Edition}
-use Rattle.scp_fields.specs.Editions.{slots}
 use Rattle.scp_fields.specs.Header.{trackEntry}
 use Rattle.scp_fields.specs.Footer.{stringSlots}
 use Rattle.scp_footer.specs.Footer.{stringFaultAt, stringFault, footerFault}
 use Rattle.scp_header.specs.HeaderFault.{headFault}
-use Rattle.scp_tracks.specs.Tracks.{durationAt, countAt, fluxAt, trackFaultAt, trackFault, tracksFault}
+use Rattle.scp_tracks.specs.Tracks.{durationAt, countAt, fluxAt, tracksFault}
 use Rattle.scp_tracks.specs.declared.RevolutionData.{RevolutionData}
 use Rattle.scp_open.specs.Opening.{openFault}
 use Rattle.scp_open.proofs.Opens.{opens}
@@ -32,6 +30,7 @@ use Rattle.scp_lookup.specs.declared.RevolutionAnswer.{RevolutionAnswer}
 use Rattle.scp_lookup.specs.declared.RevolutionAnswer.the-variants as revolution-answer
 use Rattle.scp_lookup.proofs.FoundLaws.{FoundData, revolution-there, revolution-found, found-data, found-refused, flux-within}
 use Rattle.scp.specs.Answers.{refused, numbers, revolutionAnswer, fluxOf, fluxPart, partOf, intervalsOf}
+use Rattle.scp_theorems.proofs.Numbers.{number-if, number-first, number-from, head-number, tracks-number}
 use Rattle.scp_theorems.specs.Theorems.{TrackNumber, FluxIsCounted, NeverWords}
 
 pub track-number : (t : ℕ) → TrackNumber t
@@ -71,64 +70,32 @@ flux-is-counted v b t k duration words offset e =
 
 -- ---- what refuses a revolution has a number up to 14
 
-module _ (m : ℕ) where
-  most-if : (t : Bool) (f rest : Refusal) → f .number ≤ m → rest .number ≤ m → refuseIf t f rest .number ≤ m
-  unfolding refuseIf
-  most-if true f rest h k = h
-  most-if false f rest h k = k
-
-  most-first : (f rest : Refusal) → f .number ≤ m → rest .number ≤ m → firstOf f rest .number ≤ m
-  unfolding firstOf
-  most-first f rest h k = most-if (not (passes f)) f rest h k
-
-  most-from : (f : ℕ → Refusal) (i n : ℕ) → ((j : ℕ) → f j .number ≤ m) → firstFrom f i n .number ≤ m
-  unfolding firstFrom
-  most-from f i zero h = omega arith
-  most-from f i (suc n) h = most-first (f i) (firstFrom f (i + 1) n) (h i) (most-from f (i + 1) n h)
-
 module _ (v : Edition) (b : List ℕ) where
   string-most : (j : ℕ) → stringFault v b j .number ≤ 8
   unfolding stringFaultAt
-  string-most j = most-if 8 _ _ _ (omega arith) (most-if 8 _ _ _ (omega arith) (omega arith))
+  string-most j = number-if (λ n. n ≤ 8) _ _ _ (omega arith) (number-if (λ n. n ≤ 8) _ _ _ (omega arith) (omega arith))
 
   footer-most : footerFault v b .number ≤ 8
   unfolding footerFault
-  footer-most = most-if 8 _ _ _ (omega arith) (most-if 8 _ _ _ (omega arith) (most-from 8 (stringFault v b) 0 stringSlots string-most))
-
-  head-most : headFault v b .number ≤ 8
-  unfolding headFault
-  head-most =
-      most-if 8 _ _ _ (omega arith)
-      (most-if 8 _ _ _ (omega arith)
-      (most-if 8 _ _ _ (omega arith)
-      (most-if 8 _ _ _ (omega arith)
-      (most-if 8 _ _ _ (omega arith)
-      (most-if 8 _ _ _ (omega arith)
-      footer-most)))))
-
-  track-most : (t : ℕ) → trackFault v b t .number ≤ 11
-  unfolding trackFaultAt
-  track-most t =
-      most-if 11 _ _ _ (omega arith)
-      (most-if 11 _ _ _ (omega arith)
-      (most-if 11 _ _ _ (omega arith)
-      (most-if 11 _ _ _ (omega arith)
-      (omega arith))))
+  footer-most =
+      number-if (λ n. n ≤ 8) _ _ _ (omega arith)
+      (number-if (λ n. n ≤ 8) _ _ _ (omega arith) (number-from (λ n. n ≤ 8) (omega arith) (stringFault v b) 0 stringSlots string-most))
 
   open-most : openFault v b .number ≤ 11
   unfolding openFault
   open-most =
-      let head = head-most in
-      most-first 11 (headFault v b) (tracksFault v b) (omega arith) (most-from 11 (trackFault v b) 0 (slots v) track-most)
+      let foot = footer-most in
+      number-first (λ n. n ≤ 11) (headFault v b) (tracksFault v b) (head-number (λ n. n ≤ 11) v b (omega arith) (omega arith) (omega arith) (omega arith) (omega arith) (omega arith) (omega arith))
+      (tracks-number (λ n. n ≤ 11) v b (omega arith) (omega arith) (omega arith) (omega arith))
 
   revolution-most : (t k : ℕ) → revolutionQuestion v b t k .number ≤ 14
   unfolding trackThen
   revolution-most t k =
       let first = open-most in
-      most-first 14 (openFault v b) _ (omega arith)
-      (most-if 14 _ _ _ (omega arith)
-      (most-if 14 _ _ _ (omega arith)
-      (most-if 14 _ _ _ (omega arith)
+      number-first (λ n. n ≤ 14) (openFault v b) _ (omega arith)
+      (number-if (λ n. n ≤ 14) _ _ _ (omega arith)
+      (number-if (λ n. n ≤ 14) _ _ _ (omega arith)
+      (number-if (λ n. n ≤ 14) _ _ _ (omega arith)
       (omega arith))))
 
 -- ---- reading its intervals is never refused with 17

@@ -1,4 +1,4 @@
--- What the definitions of validating, asking and speeds are proved to mean. The proofs stand in proofs/.
+-- What the definitions of editions, validating, asking and speeds are proved to mean. The proofs stand in proofs/.
 use Prim.Native.Nat.{ℕ, _+_, _*_, _<_, _≤_}
 use mathlib.Core.Path.{_≡_}
 use mathlib.Core.Logic.{_↔_, _≢_}
@@ -12,14 +12,37 @@ use Rattle.octets.specs.Numbers.{Octets}
 use Rattle.refusals.specs.Refusals.{none}
 use Rattle.flux.specs.Answers.{wordsRefused, refuses}
 use Rattle.scp_fields.specs.declared.Edition.{Edition}
-use Rattle.scp_fields.specs.Header.{revolutions, readWrite, storedSum, trueSum}
+use Rattle.scp_fields.specs.declared.Edition.the-variants.{V1_4, V1_6}
+use Rattle.scp_fields.specs.Editions.{slots, lastTrack, tableEnd}
+use Rattle.scp_fields.specs.Header.{revolutions, readWrite, hasFooter, storedSum, trueSum, dataEnd}
 use Rattle.scp_tracks.specs.Tracks.{cylinderOf, headOf, durationAt}
+use Rattle.scp_open.specs.Opening.{openFault}
 use Rattle.scp_open.specs.Validity.{Opens}
 use Rattle.scp_speed.specs.Speeds.{rpmOf, speedOf, longest, shortest, speedsOf}
 use Rattle.scp_speed.specs.declared.Speed.the-variants.{Rpm}
 use Rattle.scp_speed.specs.declared.SpeedRange.the-variants as range
 use Rattle.scp.specs.Validating.{validateFault}
-use Rattle.scp.specs.Answers.{numbers, revolutionAnswer, fluxPart, revolutionReading}
+use Rattle.scp.specs.Answers as answers
+use Rattle.scp.specs.Answers.{numbers, footerAnswer, revolutionAnswer, fluxPart, revolutionReading}
+
+-- ---- editions
+
+-- How many entries the table of each edition has, its highest track number, and where the table ends (V-2).
+pub record EditionNumbers : Type 0 where
+  pub old : (slots V1_4 ≡ 166) × (lastTrack V1_4 ≡ 165) × (tableEnd V1_4 ≡ 680)
+  pub new : (slots V1_6 ≡ 168) × (lastTrack V1_6 ≡ 167) × (tableEnd V1_6 ≡ 688)
+
+-- By 1.4 an image has no footer, whatever its FLAGS say: its tracks and flux may lie up to its end, it is never refused with 7 or 8, and the
+-- question for its footer answers that there is none (V-3).
+pub record NoFooter (b : List ℕ) : Type 0 where
+  pub flag : hasFooter V1_4 b ≡ false
+  pub end : dataEnd V1_4 b ≡ length b
+  pub never : (openFault V1_4 b .number ≢ 7) × (openFault V1_4 b .number ≢ 8)
+  pub answer : openFault V1_4 b ≡ none → footerAnswer V1_4 b ≡ answers.none
+
+-- So it is of every image (V-3).
+abbrev pub NeverFooter : Type 0
+NeverFooter = (b : List ℕ) → NoFooter b
 
 -- ---- validating
 
