@@ -1,5 +1,5 @@
--- What an image must obey to be opened by an edition (RO-5), as a list of plain statements, and the claim that refusals 1 to 11 refuse exactly what
--- breaks it.
+-- What an image must obey to be opened by an edition (RO-5), as a list of plain statements, and the claim that refusals 1 to 11 refuse
+-- exactly what breaks it.
 use Prim.Native.Nat.{ℕ, _+_, _*_, _<_, _≤_}
 use mathlib.Core.Path.{_≡_}
 use mathlib.Core.Logic.{_↔_, _≢_, _⊎_}
