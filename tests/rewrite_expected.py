@@ -98,6 +98,7 @@ def images():
     refused = lambda n: dict.fromkeys(range(len(ATTEMPTS)), n)
     string = lambda count, place, number=0: one(count, place, strings=[(number, 720, b'x' * 7)])
     other = dict.fromkeys(TRACKS, 13)
+    two_turns = {0: (688, [(500, 4, 720), (600, 2, 740)])}
     turns_5 = [(100 + k, 1, 760 + 2 * k) for k in range(5)]
     turns_255 = [(100 + k, 1, 3752 + 2 * k) for k in range(255)]
     of_255 = lambda turns: laid({0: (688, turns)}, turns=255, length=4262)
@@ -173,6 +174,7 @@ def images():
         'string_text': (string(2, 722), short, {FOUR: 17, TWO: 0, NONE: 0}),
         'string_zero': (string(4, 729), shared, fine),
         'string_last': (string(4, 729, 5), shared, fine),
+        'string_in_flux': (laid(two_turns, turns=2, strings=[(2, 724, b'x' * 7)]), {**shared, TURN_1: 0}, {**fine, TURN_1: 0}),
         # empty strings, each on three zero bytes of the header: of the duration, the count, the distance
         'string_duration': (laid({0: (688, [(0, 4, 704)])}, strings=[(4, 692, b'')]), shared, fine),
         'string_count': (one(4, 704, strings=[(4, 697, b'')]), shared, fine),
