@@ -1,9 +1,9 @@
 #!/usr/bin/env python3
 """Lists of calls for crates/replay_test, each on an image of its own, and what they must print, worked out call by call from the rules.
 
-    python3 tests/replay_expected.py stdin       writes the images and the numbers of the calls to crates/replay_test/stdin
+    python3 tests/replay_expected.py stdin       writes images, calls and words to crates/replay_test/stdin
     python3 tests/replay_expected.py stdout      prints what crates/replay_test must print
-    python3 tests/replay_expected.py same        fails where the stored images and calls are not those made here
+    python3 tests/replay_expected.py same        fails where what is stored there is not what is made here
 """
 import pathlib
 import struct
@@ -69,7 +69,9 @@ def lists():
 
 
 def stdin(made):
-    return b''.join(bytes(b) + struct.pack('<153Q', *(n for call in calls for n in call), *LEFT_OVER) for _, b, _, calls, _ in made)
+    """For each list its image, the numbers of its calls, each of 8 bytes, and the words."""
+    numbers = lambda calls: struct.pack('<153Q', *(n for call in calls for n in call), *LEFT_OVER)
+    return b''.join(bytes(b) + numbers(calls) + WORDS for _, b, _, calls, _ in made)
 
 
 # ---- answering

@@ -14,7 +14,7 @@ import sys
 
 sys.dont_write_bytecode = True
 import scp_images
-from scp_images import A, HEAD, OLD_HEAD, V1_4, V1_6, Image, Refused, image, judged, put, resum
+from scp_images import A, OLD_A, OLD_HEAD, V1_4, V1_6, Image, Refused, image, judged, put, resum
 
 ROOT = pathlib.Path(__file__).resolve().parent.parent
 WORDS = bytes.fromhex('01400000000100F0')
@@ -89,8 +89,8 @@ def old_two(header, flux, flux_165):
 
 
 def images():
-    """name: (image, {attempt: number of refusal by 1.6, 0 for done}, the same by 1.4, where not all attempts have the numbers of 1.6)."""
-    old = scp_images.images()
+    """name: (image, {attempt: number of refusal, 0 for done} by 1.6, and by 1.4), the last only where the editions answer differently."""
+    stored = scp_images.images()
     shared = {FOUR: 18, TWO: 18, NONE: 18, ODD: 17, FIVE: 17}
     both = {**shared, TRACK_1: 18}
     short = {FOUR: 17, TWO: 18, NONE: 18}
@@ -105,34 +105,34 @@ def images():
     first_and_last = {NONE: 18, TURN_1: 0, TURN_4: 0, TURN_127: 0, TURN_254: 18}
     return {
         'a': (A, {**fine, TURN_1: 14, TURN_4: 14, TURN_5: 14, TURN_MAX: 14, **other}),
-        'damaged': (old['damaged'], fine),
+        'damaged': (stored['damaged'], fine),
         'stored_0': (put(A, 12, bytes(4)), fine),
         'stored_largest': (put(A, 12, b'\xFF' * 4), fine),
-        'two_sided': (old['two_sided'], {**fine, TURN_1: 0, TURN_4: 0, TURN_5: 14, TURN_MAX: 14, TRACK_1: 0, TRACK_167: 13}),
-        'one_side_odd': (old['one_side_odd'], {FOUR: 13, TRACK_1: 0}),
-        'read_write': (old['read_write'], {FOUR: 17, TWO: 0, NONE: 0}),
+        'two_sided': (stored['two_sided'], {**fine, TURN_1: 0, TURN_4: 0, TURN_5: 14, TURN_MAX: 14, TRACK_1: 0, TRACK_167: 13}),
+        'one_side_odd': (stored['one_side_odd'], {FOUR: 13, TRACK_1: 0}),
+        'read_write': (stored['read_write'], {FOUR: 17, TWO: 0, NONE: 0}),
         'read_write_4': (one(4, 704, flags=0x11), fine),
-        'read_write_summed': (old['read_write_summed'], {FOUR: 17, TWO: 0, NONE: 0}),
+        'read_write_summed': (stored['read_write_summed'], {FOUR: 17, TWO: 0, NONE: 0}),
         'type_bit_is_not_read_write': (one(4, 704, flags=9), fine),
-        'no_tracks': (old['no_tracks'], {FOUR: 13, **other}),
+        'no_tracks': (stored['no_tracks'], {FOUR: 13, **other}),
         'five_words': (image({0: [(1, [1, 2, 3, 4, 5])]}), {**fine, FIVE: 0}),
-        'revolutions_6': (old['revolutions_6'], {FOUR: 17, NONE: 0, TURN_1: 0, TURN_4: 0, TURN_5: 17, TURN_5_WORD: 0, TURN_127: 14}),
-        'revolutions_255': (old['revolutions_255'], {FOUR: 17, NONE: 0, TURN_1: 0, TURN_127: 0, TURN_254: 0, TURN_MAX: 14}),
+        'revolutions_6': (stored['revolutions_6'], {FOUR: 17, NONE: 0, TURN_1: 0, TURN_4: 0, TURN_5: 17, TURN_5_WORD: 0, TURN_127: 14}),
+        'revolutions_255': (stored['revolutions_255'], {FOUR: 17, NONE: 0, TURN_1: 0, TURN_127: 0, TURN_254: 0, TURN_MAX: 14}),
         'track_167': (image({0: [(1, [1, 2, 3, 4])], 167: [(2, [5])]}), {**fine, TRACK_167: 0}, refused(5)),
         # refused before
-        'length_687': (old['length_687'], refused(1), refused(10)),
-        'empty': (old['empty'], refused(1)),
-        'not_scp': (old['not_scp'], refused(2)),
-        'width_8': (old['width_8'], refused(3)),
-        'revolutions_0': (old['revolutions_0'], refused(4)),
-        'read_write_255': (old['read_write_255'], refused(4)),
-        'end_168': (old['end_168'], refused(5)),
-        'heads_3': (old['heads_3'], refused(6)),
-        'footer_unsigned': (old['footer_unsigned'], refused(7), {**fine, TURN_4: 0, TRACK_1: 0}),
-        'string_low': (old['string_low'], refused(8), {**fine, TURN_4: 0, TRACK_1: 0}),
-        'slot_past_end': (old['slot_past_end'], refused(9)),
-        'no_trk': (old['no_trk'], refused(10)),
-        'count_5': (old['count_5'], refused(11)),
+        'length_687': (stored['length_687'], refused(1), refused(10)),
+        'empty': (stored['empty'], refused(1)),
+        'not_scp': (stored['not_scp'], refused(2)),
+        'width_8': (stored['width_8'], refused(3)),
+        'revolutions_0': (stored['revolutions_0'], refused(4)),
+        'read_write_255': (stored['read_write_255'], refused(4)),
+        'end_168': (stored['end_168'], refused(5)),
+        'heads_3': (stored['heads_3'], refused(6)),
+        'footer_unsigned': (stored['footer_unsigned'], refused(7), {**fine, TURN_4: 0, TRACK_1: 0}),
+        'string_low': (stored['string_low'], refused(8), {**fine, TURN_4: 0, TRACK_1: 0}),
+        'slot_past_end': (stored['slot_past_end'], refused(9)),
+        'no_trk': (stored['no_trk'], refused(10)),
+        'count_5': (stored['count_5'], refused(11)),
         # the flux of two tracks
         'tracks_flux': (two(704, 740, (4, 746)), both),
         'tracks_flux_a_byte': (two(704, 740, (4, 747)), both),
@@ -196,24 +196,24 @@ def images():
         # strings that share bytes with one another only
         'strings_same': (one(4, 704, strings=[(0, 720, b'xy'), (3, 720, b'xy')]), fine),
         # images of revision 1.4, whose track header may stand at 680, and others on which the editions differ
-        'old_a': (old['old_a'], refused(10), {**fine, TURN_1: 14, **other}),
-        'old_damaged': (old['old_damaged'], refused(10), fine),
-        'old_read_write': (old['old_read_write'], refused(10), fine),
-        'old_two_sided': (old['old_two_sided'], refused(10), {**fine, TURN_4: 0, TURN_5: 14, TRACK_1: 0}),
-        'old_revolutions_255': (old['old_revolutions_255'], refused(10), {FOUR: 17, NONE: 0, TURN_127: 0, TURN_254: 0, TURN_MAX: 14}),
-        'old_length_679': (old['old_length_679'], refused(1)),
-        'old_length_680': (old['old_length_680'], refused(1), {FOUR: 13, **other}),
-        'old_header_679': (old['old_header_679'], refused(10)),
-        'old_header_687': (old['old_header_687'], refused(10), fine),
-        'old_gap': (old['old_gap'], refused(9), fine),
-        'end_166': (old['end_166'], fine, refused(5)),
-        'last_tracks': (old['last_tracks'], {**fine, TRACK_1: 13, TRACK_165: 0, TRACK_166: 0, TRACK_167: 0, TRACK_168: 13}, refused(5)),
-        'old_track_165': (old['old_track_165'], refused(10), {**fine, TRACK_1: 13, TRACK_165: 0, TRACK_166: 13}),
-        'old_flux_165': (old['old_flux_165'], refused(10), refused(11)),
-        'old_flagged': (old['old_flagged'], refused(7), fine),
+        'old_a': (stored['old_a'], refused(10), {**fine, TURN_1: 14, **other}),
+        'old_damaged': (stored['old_damaged'], refused(10), fine),
+        'old_read_write': (stored['old_read_write'], refused(10), fine),
+        'old_two_sided': (stored['old_two_sided'], refused(10), {**fine, TURN_4: 0, TURN_5: 14, TRACK_1: 0}),
+        'old_revolutions_255': (stored['old_revolutions_255'], refused(10), {FOUR: 17, NONE: 0, TURN_127: 0, TURN_254: 0, TURN_MAX: 14}),
+        'old_length_679': (stored['old_length_679'], refused(1)),
+        'old_length_680': (stored['old_length_680'], refused(1), {FOUR: 13, **other}),
+        'old_header_679': (stored['old_header_679'], refused(10)),
+        'old_header_687': (stored['old_header_687'], refused(10), fine),
+        'old_gap': (stored['old_gap'], refused(9), fine),
+        'end_166': (stored['end_166'], fine, refused(5)),
+        'last_tracks': (stored['last_tracks'], {**fine, TRACK_1: 13, TRACK_165: 0, TRACK_166: 0, TRACK_167: 0, TRACK_168: 13}, refused(5)),
+        'old_track_165': (stored['old_track_165'], refused(10), {**fine, TRACK_1: 13, TRACK_165: 0, TRACK_166: 13}),
+        'old_flux_165': (stored['old_flux_165'], refused(10), refused(11)),
+        'old_flagged': (stored['old_flagged'], refused(7), fine),
         # over the last 48 bytes
-        'flux_in_footer': (old['flux_in_footer'], refused(11), {FOUR: 0, TWO: 0, NONE: 0, ODD: 17, FIVE: 0}),
-        'header_in_footer': (old['header_in_footer'], refused(10), fine),
+        'flux_in_footer': (stored['flux_in_footer'], refused(11), {FOUR: 0, TWO: 0, NONE: 0, ODD: 17, FIVE: 0}),
+        'header_in_footer': (stored['header_in_footer'], refused(10), fine),
         # the last track claims, and so does the own header from 680 on
         'old_tracks_flux': (old_two(696, 740, (4, 747)), refused(10), {**shared, TRACK_165: 18}),
         'old_other_header_start': (old_two(703, 696, (2, 780)), refused(10), {**shared, TRACK_165: 0}),
@@ -299,7 +299,7 @@ def expected(made):
 
 def examples():
     """The examples of the rules, and those of revision 1.4."""
-    for edition, a, stored, moved in (V1_6, A, 980, 885), (V1_4, scp_images.OLD_A, 972, 877):
+    for edition, a, stored, moved in (V1_6, A, 980, 885), (V1_4, OLD_A, 972, 877):
         after = attempt(bytes(a), edition, *ATTEMPTS[FOUR])[2]
         assert after[12:16] == struct.pack('<I', moved) and judged(after, edition) == 'valid'
         after = attempt(bytes(put(a, 12, struct.pack('<I', stored + 1))), edition, *ATTEMPTS[FOUR])[2]

@@ -4,7 +4,7 @@
 Written from the rules and the public text of revisions 1.6 and 1.4 alone: an image is taken apart into owned pieces first, by the edition
 that is named, and refused by the first rule that a piece breaks. It shares nothing with the Rattle code.
 
-    python3 tests/scp_images.py images      writes the images to crates/scp_test/data and crates/scp_list/stdin
+    python3 tests/scp_images.py images      writes the images to crates/scp_test/data and crates/scp_list/stdin, and their names to args
     python3 tests/scp_images.py stdout      prints what crates/scp_test must print
     python3 tests/scp_images.py list        prints what crates/scp_list must print
     python3 tests/scp_images.py same        fails where the stored images are not those made here
@@ -110,6 +110,65 @@ def any_order():
     return resum(b)
 
 
+def header_at(at):
+    """Image A of revision 1.4 with its track header at another offset."""
+    return resum(put((OLD_A[:OLD_HEAD] + bytes(8))[:at] + OLD_A[OLD_HEAD:], 0x10, struct.pack('<I', at)))
+
+
+def header_in_footer():
+    """The times of the footer are a track header too, and the version bytes and the signature its flux."""
+    times = struct.unpack('<qq', b'TRK\0' + struct.pack('<III', 8_000_000, 4, 16))
+    b = image({}, footer=([None] * 6, *times, [1, 2, 3, 0x16]))
+    return resum(put(b, 0x10, struct.pack('<I', len(b) - 24)))
+
+
+def of_editions():
+    """Images of revision 1.4, and others on which the editions differ. name: (image, what validating says by 1.6, and by 1.4)."""
+    old = lambda tracks, **more: image(tracks, edition=V1_4, **more)
+    with_strings = lambda *strings: old({0: TRACK}, footer=([*strings, *[None] * (6 - len(strings))], 1, -1, [1, 2, 3, 0x16]))
+    old_footer, footed = with_strings(b'maker', b'model'), image({0: TRACK}, footer=([None] * 6, 0, 0, [0, 0, 0, 0x16]))
+    two_sided, far = {t: five_turns(t) for t in (0, 1, 6)}, old({0: TRACK, 165: TRACK})
+    far_header = len(far) - 24
+    return {
+        'old_a': (OLD_A, 'refused 10 at 0', 'valid'),
+        'old_damaged': (put(OLD_A, 12, struct.pack('<I', 973)), 'refused 10 at 0', 'refused 12 at 0'),
+        'old_count_5': (resum(put(OLD_A, OLD_HEAD + 8, b'\5')), 'refused 10 at 0', 'refused 11 at 0'),
+        'old_read_write': (old({0: TRACK}, flags=0x11), 'refused 10 at 0', 'valid'),
+        'old_two_sided': (old(two_sided, revolutions=5, tail=b'1/05/2014 5:15:21 PM'), 'refused 10 at 0', 'valid'),
+        'old_revolutions_255': (of_turns(255, edition=V1_4), 'refused 10 at 0', 'valid'),
+        # the length, and what lies right behind the table
+        'old_length_679': (OLD_A[:679], 'refused 1 at 0', 'refused 1 at 0'),
+        'old_length_680': (old({}), 'refused 1 at 0', 'valid'),
+        'old_length_687': (old({}, tail=bytes(7)), 'refused 1 at 0', 'valid'),
+        'old_header_679': (header_at(679), 'refused 10 at 0', 'refused 10 at 0'),
+        'old_header_687': (header_at(687), 'refused 10 at 0', 'valid'),
+        'old_gap': (old({0: TRACK}, gap=b'12345678'), 'refused 9 at 166', 'valid'),
+        'old_gap_167': (old({0: TRACK}, gap=b'\0\0\0\0' b'5678'), 'refused 9 at 167', 'valid'),
+        'old_gap_end_167': (old({0: TRACK}, gap=b'12345678', end=167), 'refused 10 at 166', 'refused 5 at 0'),
+        # the last tracks
+        'end_165': (put(A, 7, b'\xA5'), 'valid', 'valid'),
+        'end_166': (put(A, 7, b'\xA6'), 'valid', 'refused 5 at 0'),
+        'last_tracks': (image({t: TRACK for t in (0, 165, 166, 167)}), 'valid', 'refused 5 at 0'),
+        'old_end_166': (put(OLD_A, 7, b'\xA6'), 'refused 10 at 0', 'refused 5 at 0'),
+        'old_track_165': (far, 'refused 10 at 0', 'valid'),
+        'old_slot_165': (put(far, 7, b'\xA4'), 'refused 10 at 0', 'refused 9 at 165'),
+        'old_side_165': (put(far, 10, b'\1'), 'refused 10 at 0', 'refused 9 at 165'),
+        'old_number_165': (put(far, far_header + 3, b'\xA6'), 'refused 10 at 0', 'refused 10 at 165'),
+        'old_flux_165': (put(far, far_header + 8, b'\5'), 'refused 10 at 0', 'refused 11 at 165'),
+        # FLAGS bit 5 with no footer, or with one that 1.6 reads or refuses
+        'old_flagged': (put(OLD_A, 8, b'\x21'), 'refused 7 at 0', 'valid'),
+        'old_footer': (old_footer, 'refused 10 at 0', 'valid'),
+        'old_footer_unsigned': (resum(put(old_footer, len(old_footer) - 1, b'T')), 'refused 7 at 0', 'valid'),
+        'old_footer_version_15': (resum(put(old_footer, len(old_footer) - 5, b'\x15')), 'refused 7 at 0', 'valid'),
+        'old_string_low': (resum(put(old_footer, len(old_footer) - 44, struct.pack('<I', 687))), 'refused 8 at 1', 'valid'),
+        'old_string_zero_inside': (with_strings(b'ma\0er'), 'refused 8 at 0', 'valid'),
+        # E is the length: flux and header in the last 48 bytes
+        'flux_in_footer': (resum(put(footed, HEAD + 8, b'\x1C')), 'refused 11 at 0', 'valid'),
+        'flux_past_footer': (resum(put(footed, HEAD + 8, b'\x1D')), 'refused 11 at 0', 'refused 11 at 0'),
+        'header_in_footer': (header_in_footer(), 'refused 10 at 0', 'valid'),
+    }
+
+
 def images():
     strings = [b'maker', b'', None, b'creator', b'app 1.6', None]
     footer = strings, -1, 1_700_000_000, [0x10, 0x15, 0x12, 0x16]
@@ -174,66 +233,6 @@ def images():
         # every byte but zero, and 0x97 as the text's example has it (L-24)
         'string_any_bytes': image({0: [(0, [])]}, footer=([bytes(range(1, 256)), b'My \x97pp'] + [None] * 4, 0, 0, [0, 0, 0, 0x16])),
         **{name: b for name, (b, *_) in of_editions().items()},
-    }
-
-
-def header_at(at):
-    """Image A of revision 1.4 with its track header at another offset."""
-    return resum(put((OLD_A[:OLD_HEAD] + bytes(8))[:at] + OLD_A[OLD_HEAD:], 0x10, struct.pack('<I', at)))
-
-
-def header_in_footer():
-    """The times of the footer are a track header too, and the version bytes and the signature its flux."""
-    times = struct.unpack('<qq', b'TRK\0' + struct.pack('<III', 8_000_000, 4, 16))
-    b = image({}, footer=([None] * 6, *times, [1, 2, 3, 0x16]))
-    return resum(put(b, 0x10, struct.pack('<I', len(b) - 24)))
-
-
-def of_editions():
-    """Images of revision 1.4, and others on which the editions differ. name: (image, what validating says by 1.6, and by 1.4)."""
-    old = lambda tracks, **more: image(tracks, edition=V1_4, **more)
-    flagged = lambda b: put(b, 8, b'\x21')
-    with_strings = lambda *strings: old({0: TRACK}, footer=([*strings, *[None] * (6 - len(strings))], 1, -1, [1, 2, 3, 0x16]))
-    old_footer, footed = with_strings(b'maker', b'model'), image({0: TRACK}, footer=([None] * 6, 0, 0, [0, 0, 0, 0x16]))
-    two_sided, far = {t: five_turns(t) for t in (0, 1, 6)}, old({0: TRACK, 165: TRACK})
-    far_header = len(far) - 24
-    return {
-        'old_a': (OLD_A, 'refused 10 at 0', 'valid'),
-        'old_damaged': (put(OLD_A, 12, struct.pack('<I', 973)), 'refused 10 at 0', 'refused 12 at 0'),
-        'old_count_5': (resum(put(OLD_A, OLD_HEAD + 8, b'\5')), 'refused 10 at 0', 'refused 11 at 0'),
-        'old_read_write': (old({0: TRACK}, flags=0x11), 'refused 10 at 0', 'valid'),
-        'old_two_sided': (old(two_sided, revolutions=5, tail=b'1/05/2014 5:15:21 PM'), 'refused 10 at 0', 'valid'),
-        'old_revolutions_255': (of_turns(255, edition=V1_4), 'refused 10 at 0', 'valid'),
-        # the length, and what lies right behind the table
-        'old_length_679': (OLD_A[:679], 'refused 1 at 0', 'refused 1 at 0'),
-        'old_length_680': (old({}), 'refused 1 at 0', 'valid'),
-        'old_length_687': (old({}, tail=bytes(7)), 'refused 1 at 0', 'valid'),
-        'old_header_679': (header_at(679), 'refused 10 at 0', 'refused 10 at 0'),
-        'old_header_687': (header_at(687), 'refused 10 at 0', 'valid'),
-        'old_gap': (old({0: TRACK}, gap=b'12345678'), 'refused 9 at 166', 'valid'),
-        'old_gap_167': (old({0: TRACK}, gap=b'\0\0\0\0' b'5678'), 'refused 9 at 167', 'valid'),
-        'old_gap_end_167': (old({0: TRACK}, gap=b'12345678', end=167), 'refused 10 at 166', 'refused 5 at 0'),
-        # the last tracks
-        'end_165': (put(A, 7, b'\xA5'), 'valid', 'valid'),
-        'end_166': (put(A, 7, b'\xA6'), 'valid', 'refused 5 at 0'),
-        'last_tracks': (image({t: TRACK for t in (0, 165, 166, 167)}), 'valid', 'refused 5 at 0'),
-        'old_end_166': (put(OLD_A, 7, b'\xA6'), 'refused 10 at 0', 'refused 5 at 0'),
-        'old_track_165': (far, 'refused 10 at 0', 'valid'),
-        'old_slot_165': (put(far, 7, b'\xA4'), 'refused 10 at 0', 'refused 9 at 165'),
-        'old_side_165': (put(far, 10, b'\1'), 'refused 10 at 0', 'refused 9 at 165'),
-        'old_number_165': (put(far, far_header + 3, b'\xA6'), 'refused 10 at 0', 'refused 10 at 165'),
-        'old_flux_165': (put(far, far_header + 8, b'\5'), 'refused 10 at 0', 'refused 11 at 165'),
-        # FLAGS bit 5 with no footer, or with one that 1.6 reads or refuses
-        'old_flagged': (flagged(OLD_A), 'refused 7 at 0', 'valid'),
-        'old_footer': (old_footer, 'refused 10 at 0', 'valid'),
-        'old_footer_unsigned': (resum(put(old_footer, len(old_footer) - 1, b'T')), 'refused 7 at 0', 'valid'),
-        'old_footer_version_15': (resum(put(old_footer, len(old_footer) - 5, b'\x15')), 'refused 7 at 0', 'valid'),
-        'old_string_low': (resum(put(old_footer, len(old_footer) - 44, struct.pack('<I', 687))), 'refused 8 at 1', 'valid'),
-        'old_string_zero_inside': (with_strings(b'ma\0er'), 'refused 8 at 0', 'valid'),
-        # E is the length: flux and header in the last 48 bytes
-        'flux_in_footer': (resum(put(footed, HEAD + 8, b'\x1C')), 'refused 11 at 0', 'valid'),
-        'flux_past_footer': (resum(put(footed, HEAD + 8, b'\x1D')), 'refused 11 at 0', 'refused 11 at 0'),
-        'header_in_footer': (header_in_footer(), 'refused 10 at 0', 'valid'),
     }
 
 
@@ -374,16 +373,17 @@ def questions(b, edition):
 
 def main(what):
     made = {'%s.scp' % name: bytes(b) for name, b in images().items()}
-    data, stdin = ROOT / 'crates/scp_test/data', ROOT / 'crates/scp_list/stdin'
+    data, args, stdin = ROOT / 'crates/scp_test/data', ROOT / 'crates/scp_test/args', ROOT / 'crates/scp_list/stdin'
+    names = ''.join(name + '\n' for name in made)
     if what == 'images':
         data.mkdir(parents=True, exist_ok=True)
         for name, b in made.items():
             (data / name).write_bytes(b)
-        (ROOT / 'crates/scp_test/args').write_text(''.join(name + '\n' for name in made))
+        args.write_text(names)
         stdin.write_bytes(bytes(A))
     elif what == 'same':
         stored = {p.name: p.read_bytes() for p in data.glob('*.scp')}
-        sys.exit(stored != made or stdin.read_bytes() != bytes(A))
+        sys.exit(stored != made or args.read_text() != names or stdin.read_bytes() != bytes(A))
     elif what == 'list':
         print('\n'.join(listing(A)))
     else:

@@ -1,5 +1,5 @@
-// Runs lists of calls through `replay`, each on an image of its own: standard input holds image, calls, image, calls and so on, as
-// tests/replay_expected.py writes them. `stdout` is what that works out, which shares nothing with this code.
+// Runs the lists of calls on standard input through `replay`, each on an image of its own, as tests/replay_expected.py writes them there.
+// `stdout` is what that works out, which shares nothing with this code.
 use scp::Validated;
 use scp_fields::Edition;
 use sequence::Replayed;
@@ -67,31 +67,13 @@ fn read_calls() -> [u64; 153] {
     calls
 }
 
-// Reads an image and its calls, makes them, and shows the answers and what becomes of the image.
+// Reads an image, its calls and their words, makes the calls, and shows the answers and what becomes of the image.
 fn run(name: &[u8], image: &mut [u8], answers: &mut [u64]) {
-    let words = [
-        1,
-        64,
-        0,
-        0,
-        0,
-        1,
-        0,
-        240,
-        0,
-        5,
-        20,
-        27,
-        34,
-        41,
-        7,
-        0,
-        120,
-        120,
-    ];
     text(name);
     io::read_full(0, image);
     let calls = read_calls();
+    let mut words = [0; 18];
+    io::read_full(0, &mut words);
     print_replayed(sequence::replay(image, &calls, &words, answers));
     print_rows(answers);
     print_image(image);
