@@ -1,21 +1,80 @@
 #!/usr/bin/env python3
-"""Prints what crates/replay_test must print: a list of calls on image A, worked out call by call from the rules."""
+"""Lists of calls for crates/replay_test, each on an image of its own, and what they must print, worked out call by call from the rules.
+
+    python3 tests/replay_expected.py stdin       writes images, calls and words to crates/replay_test/stdin
+    python3 tests/replay_expected.py stdout      prints what crates/replay_test must print
+    python3 tests/replay_expected.py same        fails where what is stored there is not what is made here
+"""
 import pathlib
 import struct
 import sys
 
-sys.path.insert(0, str(pathlib.Path(__file__).resolve().parent))
+sys.dont_write_bytecode = True
 import rewrite_expected
 import scp_images
+from scp_images import A, V1_4, V1_6, Image, Refused, judged
 
-WORDS = bytes.fromhex('01400000000100F00005')
-CALLS = [
-    (0, 0, 0, 0, 0, 0), (1, 0, 0, 0, 0, 0), (2, 0, 0, 0, 0, 0), (3, 0, 0, 0, 0, 0), (4, 0, 0, 0, 0, 0), (5, 0, 0, 0, 0, 0),
-    (6, 0, 0, 0, 0, 0), (7, 0, 0, 0, 0, 0), (8, 0, 0, 8_000_000, 0, 8), (0, 0, 0, 0, 0, 0), (8, 0, 0, 2**32 + 1_234_567, 8, 2),
-    (4, 0, 0, 0, 0, 0), (5, 0, 0, 0, 0, 0), (6, 0, 0, 0, 0, 0), (8, 0, 0, 5, 0, 8), (8, 1, 0, 5, 0, 2), (99, 0, 0, 0, 0, 0),
-    (4, 2**40, 0, 0, 0, 0), (8, 0, 0, 0, 1000, 8), (7, 0, 0, 0, 0, 0), (0, 0, 0, 0, 0, 0),
-]
+STDIN = pathlib.Path(__file__).resolve().parent.parent / 'crates/replay_test/stdin'
+# The words of image A rewritten, a single one, and those that revolution 0 of the image string_in_flux has.
+WORDS = bytes.fromhex('01400000000100F0' '0005' '141B222907007878')
+# What follows the last call is no row, since a row has 7 numbers.
+LEFT_OVER = [1] * 6
+VALIDATE, HEADER, FOOTER, TRACK, REVOLUTION, FLUX, SPEED, SPEEDS, REWRITE, UNKNOWN = *range(9), 99
 
+
+# ---- making the lists
+
+def ask(kind, edition, track=0, revolution=0):
+    return kind, track, revolution, 0, 0, 0, edition
+
+
+def rewrite(edition, duration, start, size, track=0, revolution=0):
+    return REWRITE, track, revolution, duration, start, size, edition
+
+
+def alike(n):
+    """Calls by one edition: all questions, rewrites with what then reads as they put it, and odd arguments."""
+    return [
+        *(ask(kind, n) for kind in (VALIDATE, HEADER, FOOTER, TRACK, REVOLUTION, FLUX, SPEED, SPEEDS)),
+        rewrite(n, 8_000_000, 0, 8), ask(VALIDATE, n), rewrite(n, 2**32 + 1_234_567, 8, 2),
+        ask(REVOLUTION, n), ask(FLUX, n), ask(SPEED, n), rewrite(n, 5, 0, 8), rewrite(n, 5, 0, 2, track=1),
+        ask(UNKNOWN, n), ask(REVOLUTION, n, track=2**40), rewrite(n, 0, 1000, 8), ask(SPEEDS, n), ask(VALIDATE, n),
+    ]
+
+
+def mixed():
+    """Calls by both editions on an image whose string 2 lies over the flux of revolution 0: what 1.6 claims, 1.4 overwrites.
+
+    Revolution 1 is never rewritten, and yet no longer reads by 1.6. The calls, and the number and position of those that are refused.
+    """
+    return [
+        ask(VALIDATE, 16), *(ask(FOOTER, n) for n in (14, 16, 0, 15, 2**32 + 14, 2**64 - 1)),
+        ask(REVOLUTION, 16, revolution=1), rewrite(16, 8_000_000, 0, 8), rewrite(14, 8_000_000, 0, 8),
+        ask(REVOLUTION, 16, revolution=1), ask(REVOLUTION, 14, revolution=1), ask(VALIDATE, 16), ask(VALIDATE, 14),
+        ask(FOOTER, 2**64 - 1), rewrite(16, 5, 8, 2, revolution=1), ask(TRACK, 14, track=166),
+        # the former words again
+        rewrite(14, 500, 10, 8), ask(REVOLUTION, 16, revolution=1), ask(FOOTER, 16), ask(VALIDATE, 16),
+    ], {8: (18, 0), 10: (8, 2), 12: (8, 2), 14: (8, 2), 15: (8, 2), 16: (13, 0)}
+
+
+def lists():
+    """Name, image, places for the answers, calls, and which of them are refused: {call: (number, position)}."""
+    refused = {14: (17, 0), 15: (13, 0), 17: (13, 0)}
+    return [
+        ('a place too few', A, 335, alike(16), {}),
+        ('a', A, 339, alike(16), refused),
+        ('old_footer', scp_images.images()['old_footer'], 336, alike(14), refused),
+        ('string_in_flux', rewrite_expected.images()['string_in_flux'][0], 336, *mixed()),
+    ]
+
+
+def stdin(made):
+    """For each list its image, the numbers of its calls, each of 8 bytes, and the words."""
+    numbers = lambda calls: struct.pack('<153Q', *(n for call in calls for n in call), *LEFT_OVER)
+    return b''.join(bytes(b) + numbers(calls) + WORDS for _, b, _, calls, _ in made)
+
+
+# ---- answering
 
 def bits(duration):
     return struct.unpack('<Q', struct.pack('<d', 2_400_000_000 / duration))[0]
@@ -23,34 +82,41 @@ def bits(duration):
 
 def turn(i, t, k):
     if t not in i.tracks:
-        raise scp_images.Refused(13)
+        raise Refused(13)
     if k >= i.turns:
-        raise scp_images.Refused(14)
+        raise Refused(14)
     return i.tracks[t][k]
 
 
-def answer(b, kind, t, k, duration, start, size):
+def footer(i):
+    if i.footer is None:
+        return [0]
+    offsets, created, modified, versions = i.footer
+    return [1, *offsets, created % 2**64, modified % 2**64, *versions]
+
+
+def answer(b, kind, t, k, duration, start, size, edition):
     """The values of a call's answer, and the image after it."""
-    t, k = min(t, 2**32 - 1), min(k, 2**32 - 1)
-    if kind == 8:
-        return [], rewrite_expected.rewritten(b, t, k, duration % 2**32, WORDS[start:start + size])
-    i = scp_images.Image(b)
-    if kind == 1:
+    t, k, edition = min(t, 2**32 - 1), min(k, 2**32 - 1), V1_4 if edition == 14 else V1_6
+    if kind == REWRITE:
+        return [], bytes(rewrite_expected.rewritten(b, edition, t, k, duration % 2**32, WORDS[start:start + size]))
+    i = Image(b, edition)
+    if kind == HEADER:
         return [i.version, i.disk, i.turns, i.start, i.end, i.flags, i.width, i.heads, i.stored], b
-    if kind == 2:
-        return [0], b
-    if kind == 3:
+    if kind == FOOTER:
+        return footer(i), b
+    if kind == TRACK:
         turn(i, t, 0)
         return [t // 2, t % 2, i.entries[t], i.turns], b
-    if kind == 4:
+    if kind == REVOLUTION:
         return list(turn(i, t, k)), b
-    if kind == 5:
+    if kind == FLUX:
         _, count, place = turn(i, t, k)
         return [place, 2 * count, sum(b[place:place + 2 * count]) % 2**32], b
-    if kind == 6:
+    if kind == SPEED:
         spent = turn(i, t, k)[0]
         return [1, bits(spent)] if spent else [0], b
-    if kind == 7:
+    if kind == SPEEDS:
         turn(i, t, 0)
         spent = [d for d, _, _ in i.tracks[t] if d]
         return [1, bits(max(spent)), bits(min(spent))] if spent else [0], b
@@ -58,36 +124,50 @@ def answer(b, kind, t, k, duration, start, size):
     return [], b
 
 
-def rows(numbers):
+def replayed(b, calls):
+    """The rows of the answers, which calls are refused, and the image after all of them."""
+    rows, refused = [], {}
+    for n, call in enumerate(calls):
+        try:
+            values, b = answer(b, *call)
+            row = [0, 0, *values]
+        except Refused as r:
+            row = refused[n] = r.number, r.position
+        rows += [*row, *[0] * (16 - len(row))]
+    return rows, refused, b
+
+
+# ---- printing
+
+def printed(numbers):
     lines = [numbers[i:i + 16] for i in range(0, len(numbers), 16)]
     out = '\n'.join(''.join('%d ' % n for n in line) for line in lines)
     return out + ('\n' if len(numbers) % 16 == 0 else '')
 
 
-def image(b):
-    try:
-        scp_images.Image(b).judge()
-        verdict = 'valid'
-    except scp_images.Refused:
-        verdict = ''
-    return 'image %d %d %s' % (struct.unpack_from('<I', b, 12)[0], sum(b), verdict)
+def shown(b):
+    valid = ['valid by %s ' % edition.name for edition in (V1_6, V1_4) if judged(b, edition) == 'valid']
+    return 'image %d %d %s' % (struct.unpack_from('<I', b, 12)[0], sum(b), ''.join(valid))
 
 
-def main():
-    b, numbers = bytes(scp_images.A), []
-    print('refused 15 at 0 ')
-    print(rows([7] * 335))
-    print(image(b))
-    for call in CALLS:
-        try:
-            values, b = answer(b, *call)
-            row = [0, 0, *values]
-        except scp_images.Refused as r:
-            row = [r.number, r.position]
-        numbers += row + [0] * (16 - len(row))
-    print('done')
-    print(rows(numbers + [7] * 3))
-    print(image(b))
+def expected(made):
+    for name, b, places, calls, known in made:
+        verdict, rows, refused, after = 'done', *replayed(bytes(b), calls)
+        if places < len(rows):
+            verdict, rows, refused, after = 'refused 15 at 0 ', [], {}, bytes(b)
+        assert refused == known, (name, refused)
+        yield from ('== ' + name, verdict, printed(rows + [7] * (places - len(rows))), shown(after))
 
 
-main()
+def main(what):
+    made = lists()
+    if what == 'stdin':
+        STDIN.write_bytes(stdin(made))
+    elif what == 'same':
+        sys.exit(STDIN.read_bytes() != stdin(made))
+    else:
+        print('\n'.join(expected(made)))
+
+
+if __name__ == '__main__':
+    main(sys.argv[1])

@@ -1,10 +1,10 @@
 #!/usr/bin/env python3
 """Images for crates/scp_test and crates/scp_list, and what listing and asking them must print.
 
-Written from the rules and the public text of revision 1.6 alone: an image is taken apart into owned pieces first, and refused by the
-first rule that a piece breaks. It shares nothing with the Rattle code.
+Written from the rules and the public text of revisions 1.6 and 1.4 alone: an image is taken apart into owned pieces first, by the edition
+that is named, and refused by the first rule that a piece breaks. It shares nothing with the Rattle code.
 
-    python3 tests/scp_images.py images      writes the images to crates/scp_test/data and crates/scp_list/stdin
+    python3 tests/scp_images.py images      writes the images to crates/scp_test/data and crates/scp_list/stdin, and their names to args
     python3 tests/scp_images.py stdout      prints what crates/scp_test must print
     python3 tests/scp_images.py list        prints what crates/scp_list must print
     python3 tests/scp_images.py same        fails where the stored images are not those made here
@@ -12,10 +12,23 @@ first rule that a piece breaks. It shares nothing with the Rattle code.
 import pathlib
 import struct
 import sys
+import typing
 from fractions import Fraction
 
 ROOT = pathlib.Path(__file__).resolve().parent.parent
-HEAD = 0x2B0
+
+
+class Edition(typing.NamedTuple):
+    """A revision of the text: the entries of its table, where that ends, and whether FLAGS bit 5 means a footer."""
+    name: str
+    entries: int
+    table_end: int
+    footers: bool
+
+
+V1_4 = Edition('1.4', 166, 0x2A8, False)
+V1_6 = Edition('1.6', 168, 0x2B0, True)
+HEAD, OLD_HEAD = V1_6.table_end, V1_4.table_end
 
 
 class Refused(Exception):
@@ -35,13 +48,13 @@ def track_block(number, revolutions, shift=0):
     return head + bytes(shift) + flux
 
 
-def image(tracks, revolutions=1, start=None, end=None, flags=1, heads=0, footer=None, tail=b'', width=0, version=0x16, disk=0):
-    """tracks: {number: [(duration, words), ..]}; footer: (strings, created, modified, versions)."""
-    table, body, at = [0] * 168, b'', HEAD
+def image(tracks, revolutions=1, start=None, end=None, flags=1, heads=0, footer=None, tail=b'', width=0, version=0x16, disk=0,
+          edition=V1_6, gap=b''):
+    """tracks: {number: [(duration, words), ..]}; footer: (strings, created, modified, versions); gap: the bytes behind the table."""
+    table, body = [0] * edition.entries, gap
     for number in sorted(tracks):
-        block = track_block(number, tracks[number])
-        table[number] = at
-        body, at = body + block, at + len(block)
+        table[number] = edition.table_end + len(body)
+        body += track_block(number, tracks[number])
     body += tail
     if footer is not None:
         strings, created, modified, versions = footer
@@ -50,13 +63,13 @@ def image(tracks, revolutions=1, start=None, end=None, flags=1, heads=0, footer=
             if s is None:
                 offsets.append(0)
             else:
-                offsets.append(HEAD + len(body))
+                offsets.append(edition.table_end + len(body))
                 body += struct.pack('<H', len(s)) + s + b'\0'
         body += struct.pack('<6Iqq4s', *offsets, created, modified, bytes(versions)) + b'FPCS'
         flags |= 0x20
     start = min(tracks, default=0) if start is None else start
     end = max(tracks, default=0) if end is None else end
-    rest = struct.pack('<168I', *table) + body
+    rest = struct.pack('<%dI' % edition.entries, *table) + body
     total = 0 if flags & 0x10 else sum(rest) & 0xFFFFFFFF
     head = b'SCP' + bytes([version, disk, revolutions, start, end, flags, width, heads, 0]) + struct.pack('<I', total)
     return bytearray(head + rest)
@@ -72,12 +85,18 @@ def resum(b):
     return put(b, 12, struct.pack('<I', sum(b[16:]) & 0xFFFFFFFF))
 
 
-A = image({0: [(8_000_000, [160, 0, 1, 240])]})
+TRACK = [(8_000_000, [160, 0, 1, 240])]
+A, OLD_A = image({0: TRACK}), image({0: TRACK}, edition=V1_4)
 
 
-def of_turns(count, flags=1):
+def of_turns(count, **more):
     """Track 0 with so many revolutions, each of its own duration and of one word."""
-    return image({0: [(8_000_000 + k, [k + 1]) for k in range(count)]}, revolutions=count, flags=flags)
+    return image({0: [(8_000_000 + k, [k + 1]) for k in range(count)]}, revolutions=count, **more)
+
+
+def five_turns(n):
+    """Five revolutions of track n, with and without open time."""
+    return [(8_000_000 + 1000 * k * n, [100 + n, 0, 0, 7 + k] + [0] * (k % 3)) for k in range(5)]
 
 
 def any_order():
@@ -91,13 +110,72 @@ def any_order():
     return resum(b)
 
 
+def header_at(at):
+    """Image A of revision 1.4 with its track header at another offset."""
+    return resum(put((OLD_A[:OLD_HEAD] + bytes(8))[:at] + OLD_A[OLD_HEAD:], 0x10, struct.pack('<I', at)))
+
+
+def header_in_footer():
+    """The times of the footer are a track header too, and the version bytes and the signature its flux."""
+    times = struct.unpack('<qq', b'TRK\0' + struct.pack('<III', 8_000_000, 4, 16))
+    b = image({}, footer=([None] * 6, *times, [1, 2, 3, 0x16]))
+    return resum(put(b, 0x10, struct.pack('<I', len(b) - 24)))
+
+
+def of_editions():
+    """Images of revision 1.4, and others on which the editions differ. name: (image, what validating says by 1.6, and by 1.4)."""
+    old = lambda tracks, **more: image(tracks, edition=V1_4, **more)
+    with_strings = lambda *strings: old({0: TRACK}, footer=([*strings, *[None] * (6 - len(strings))], 1, -1, [1, 2, 3, 0x16]))
+    old_footer, footed = with_strings(b'maker', b'model'), image({0: TRACK}, footer=([None] * 6, 0, 0, [0, 0, 0, 0x16]))
+    two_sided, far = {t: five_turns(t) for t in (0, 1, 6)}, old({0: TRACK, 165: TRACK})
+    far_header = len(far) - 24
+    return {
+        'old_a': (OLD_A, 'refused 10 at 0', 'valid'),
+        'old_damaged': (put(OLD_A, 12, struct.pack('<I', 973)), 'refused 10 at 0', 'refused 12 at 0'),
+        'old_count_5': (resum(put(OLD_A, OLD_HEAD + 8, b'\5')), 'refused 10 at 0', 'refused 11 at 0'),
+        'old_read_write': (old({0: TRACK}, flags=0x11), 'refused 10 at 0', 'valid'),
+        'old_two_sided': (old(two_sided, revolutions=5, tail=b'1/05/2014 5:15:21 PM'), 'refused 10 at 0', 'valid'),
+        'old_revolutions_255': (of_turns(255, edition=V1_4), 'refused 10 at 0', 'valid'),
+        # the length, and what lies right behind the table
+        'old_length_679': (OLD_A[:679], 'refused 1 at 0', 'refused 1 at 0'),
+        'old_length_680': (old({}), 'refused 1 at 0', 'valid'),
+        'old_length_687': (old({}, tail=bytes(7)), 'refused 1 at 0', 'valid'),
+        'old_header_679': (header_at(679), 'refused 10 at 0', 'refused 10 at 0'),
+        'old_header_687': (header_at(687), 'refused 10 at 0', 'valid'),
+        'old_gap': (old({0: TRACK}, gap=b'12345678'), 'refused 9 at 166', 'valid'),
+        'old_gap_167': (old({0: TRACK}, gap=b'\0\0\0\0' b'5678'), 'refused 9 at 167', 'valid'),
+        'old_gap_end_167': (old({0: TRACK}, gap=b'12345678', end=167), 'refused 10 at 166', 'refused 5 at 0'),
+        # the last tracks
+        'end_165': (put(A, 7, b'\xA5'), 'valid', 'valid'),
+        'end_166': (put(A, 7, b'\xA6'), 'valid', 'refused 5 at 0'),
+        'last_tracks': (image({t: TRACK for t in (0, 165, 166, 167)}), 'valid', 'refused 5 at 0'),
+        'old_end_166': (put(OLD_A, 7, b'\xA6'), 'refused 10 at 0', 'refused 5 at 0'),
+        'old_track_165': (far, 'refused 10 at 0', 'valid'),
+        'old_slot_165': (put(far, 7, b'\xA4'), 'refused 10 at 0', 'refused 9 at 165'),
+        'old_side_165': (put(far, 10, b'\1'), 'refused 10 at 0', 'refused 9 at 165'),
+        'old_number_165': (put(far, far_header + 3, b'\xA6'), 'refused 10 at 0', 'refused 10 at 165'),
+        'old_flux_165': (put(far, far_header + 8, b'\5'), 'refused 10 at 0', 'refused 11 at 165'),
+        # FLAGS bit 5 with no footer, or with one that 1.6 reads or refuses
+        'old_flagged': (put(OLD_A, 8, b'\x21'), 'refused 7 at 0', 'valid'),
+        'old_footer': (old_footer, 'refused 10 at 0', 'valid'),
+        'old_footer_unsigned': (resum(put(old_footer, len(old_footer) - 1, b'T')), 'refused 7 at 0', 'valid'),
+        'old_footer_version_15': (resum(put(old_footer, len(old_footer) - 5, b'\x15')), 'refused 7 at 0', 'valid'),
+        'old_string_low': (resum(put(old_footer, len(old_footer) - 44, struct.pack('<I', 687))), 'refused 8 at 1', 'valid'),
+        'old_string_zero_inside': (with_strings(b'ma\0er'), 'refused 8 at 0', 'valid'),
+        # E is the length: flux and header in the last 48 bytes
+        'flux_in_footer': (resum(put(footed, HEAD + 8, b'\x1C')), 'refused 11 at 0', 'valid'),
+        'flux_past_footer': (resum(put(footed, HEAD + 8, b'\x1D')), 'refused 11 at 0', 'refused 11 at 0'),
+        'header_in_footer': (header_in_footer(), 'refused 10 at 0', 'valid'),
+    }
+
+
 def images():
-    five = lambda n: [(8_000_000 + 1000 * k * n, [100 + n, 0, 0, 7 + k] + [0] * (k % 3)) for k in range(5)]
     strings = [b'maker', b'', None, b'creator', b'app 1.6', None]
-    two_sided = image({0: five(0), 1: five(1), 6: five(6)}, revolutions=5, footer=(strings, -1, 1_700_000_000, [0x10, 0x15, 0x12, 0x16]), version=0)
+    footer = strings, -1, 1_700_000_000, [0x10, 0x15, 0x12, 0x16]
+    two_sided = image({t: five_turns(t) for t in (0, 1, 6)}, revolutions=5, footer=footer, version=0)
     one_string = image({0: [(0, [])]}, footer=([b'x' * 7] + [None] * 5, 0, 0, [0, 0, 0, 0x16]))
     end = len(A)
-    plain = {
+    return {
         'a': A,
         'two_sided': two_sided,
         'string_at_end': one_string,
@@ -154,16 +232,17 @@ def images():
         'any_order': any_order(),
         # every byte but zero, and 0x97 as the text's example has it (L-24)
         'string_any_bytes': image({0: [(0, [])]}, footer=([bytes(range(1, 256)), b'My \x97pp'] + [None] * 4, 0, 0, [0, 0, 0, 0x16])),
+        **{name: b for name, (b, *_) in of_editions().items()},
     }
-    return plain
 
 
 # ---- taking them apart
 
 class Image:
-    def __init__(self, b):
+    def __init__(self, b, edition):
         self.b = b = bytes(b)
-        if not 688 <= len(b) <= 1 << 28:
+        self.edition = edition
+        if not edition.table_end <= len(b) <= 1 << 28:
             raise Refused(1)
         if b[:3] != b'SCP':
             raise Refused(2)
@@ -174,15 +253,15 @@ class Image:
         self.read_write = bool(self.flags >> 4 & 1)
         if self.turns == 0 or self.read_write and self.turns > 1:
             raise Refused(4)
-        if self.start > self.end or self.end > 167:
+        if self.start > self.end or self.end >= edition.entries:
             raise Refused(5)
         if self.heads > 2:
             raise Refused(6)
         self.footer = None
         self.data_end = len(b)
-        if self.flags >> 5 & 1:
+        if edition.footers and self.flags >> 5 & 1:
             self.read_footer()
-        self.entries = struct.unpack_from('<168I', b, 16)
+        self.entries = struct.unpack_from('<%dI' % edition.entries, b, 16)
         self.tracks = {t: self.read_track(t, e) for t, e in enumerate(self.entries) if e}
 
     def read_footer(self):
@@ -197,7 +276,7 @@ class Image:
 
     def string(self, o):
         area = self.b[:self.data_end]
-        if o < 688 or o + 3 > len(area):
+        if o < self.edition.table_end or o + 3 > len(area):
             return False
         n = area[o] | area[o + 1] << 8
         text = area[o + 2:o + 3 + n]
@@ -207,7 +286,7 @@ class Image:
         if not self.start <= t <= self.end or self.heads == 1 and t & 1 or self.heads == 2 and not t & 1:
             raise Refused(9, t)
         head = self.b[entry:min(entry + 4 + 12 * self.turns, self.data_end)]
-        if entry < 688 or len(head) != 4 + 12 * self.turns or head[:4] != b'TRK' + bytes([t]):
+        if entry < self.edition.table_end or len(head) != 4 + 12 * self.turns or head[:4] != b'TRK' + bytes([t]):
             raise Refused(10, t)
         turns = []
         for duration, count, distance in struct.iter_unpack('<III', head[4:]):
@@ -222,6 +301,15 @@ class Image:
             raise Refused(12)
 
 
+def judged(b, edition):
+    """What validating says."""
+    try:
+        Image(b, edition).judge()
+    except Refused as r:
+        return 'refused %d at %d' % (r.number, r.position)
+    return 'valid'
+
+
 def intervals(words):
     out, run = [], []
     for w in words:
@@ -233,13 +321,11 @@ def intervals(words):
 
 
 def listing(b):
-    try:
-        if len(b) > 65536:
-            raise Refused(1)
-        i = Image(b)
-        i.judge()
-    except Refused as r:
-        return ['refused %d at %d' % (r.number, r.position)]
+    """What crates/scp_list prints, which stays with 1.6."""
+    verdict = judged(b, V1_6) if len(b) <= 65536 else 'refused 1 at 0'
+    if verdict != 'valid':
+        return [verdict]
+    i = Image(b, V1_6)
     lines = ['ok %d tracks %d turns %d sum %d' % (len(b), len(i.tracks), i.turns, i.stored)]
     for t, turns in i.tracks.items():
         for k, (duration, count, place) in enumerate(turns):
@@ -252,10 +338,10 @@ def exact(duration, rpm):
     return duration and Fraction(2_400_000_000, duration) == rpm
 
 
-def questions(b):
+def questions(b, edition):
     """What crates/scp_test prints of the header, the footer, a track, its revolutions and its speeds."""
     try:
-        i = Image(b)
+        i = Image(b, edition)
     except Refused as r:
         return ['asked: refused %d at %d' % (r.number, r.position)]
     lines = ['header %d %d %d %d %d %d %d %d %d' % (i.version, i.disk, i.turns, i.start, i.end, i.flags, i.width, i.heads, i.stored)]
@@ -265,7 +351,7 @@ def questions(b):
         offsets, created, modified, versions = i.footer
         times = ['%s%016x' % ('-' if n < 0 else '+', n & (1 << 64) - 1) for n in (created, modified)]
         lines.append('footer ' + ' '.join(map(str, [*offsets, *times, *versions])))
-    for t in 0, 1, 167, 168, 4294967295:
+    for t in 0, 1, 165, 166, 167, 168, 4294967295:
         if t not in i.tracks:
             lines.append('track %d: refused 13 at 0' % t)
             continue
@@ -273,7 +359,7 @@ def questions(b):
         durations = [d for d, _, _ in i.tracks[t] if d]
         lines.append('speeds ' + ('none' if not durations else
                      'slowest 300 %d fastest 300 %d' % (exact(max(durations), 300), exact(min(durations), 300))))
-        for k in 0, 4, 5, 8, 127, 199, 254, 255, 4294967295:
+        for k in (0, 4, 5, 8, 127, 199, 254, 255, 4294967295) if edition == V1_6 else (0, 254):
             if k >= i.turns:
                 lines.append('turn %d: refused 14 at 0' % k)
                 continue
@@ -287,23 +373,27 @@ def questions(b):
 
 def main(what):
     made = {'%s.scp' % name: bytes(b) for name, b in images().items()}
-    data, stdin = ROOT / 'crates/scp_test/data', ROOT / 'crates/scp_list/stdin'
+    data, args, stdin = ROOT / 'crates/scp_test/data', ROOT / 'crates/scp_test/args', ROOT / 'crates/scp_list/stdin'
+    names = ''.join(name + '\n' for name in made)
     if what == 'images':
         data.mkdir(parents=True, exist_ok=True)
         for name, b in made.items():
             (data / name).write_bytes(b)
-        (ROOT / 'crates/scp_test/args').write_text(''.join(name + '\n' for name in made))
+        args.write_text(names)
         stdin.write_bytes(bytes(A))
     elif what == 'same':
         stored = {p.name: p.read_bytes() for p in data.glob('*.scp')}
-        sys.exit(stored != made or stdin.read_bytes() != bytes(A))
+        sys.exit(stored != made or args.read_text() != names or stdin.read_bytes() != bytes(A))
     elif what == 'list':
         print('\n'.join(listing(A)))
     else:
         for name, b in made.items():
-            print('\n'.join(['== ' + name, *listing(b), *questions(b)]))
+            print('\n'.join(['== ' + name, *listing(b), *questions(b, V1_6), 'by 1.4: ' + judged(b, V1_4), *questions(b, V1_4)]))
 
 
 if __name__ == '__main__':
     assert len(A) == 712 and struct.unpack_from('<I', A, 12)[0] == 980
+    assert len(OLD_A) == 704 and struct.unpack_from('<I', OLD_A, 12)[0] == 972
+    for name, (b, *verdicts) in of_editions().items():
+        assert verdicts == [judged(b, V1_6), judged(b, V1_4)], name
     main(sys.argv[1])

@@ -1,6 +1,7 @@
-// Runs a list of calls on the image on standard input through `replay`, and prints the rows of the answers and what becomes of the image.
-// `stdout` is what tests/replay_expected.py works out, which shares nothing with this code.
+// Runs the lists of calls on standard input through `replay`, each on an image of its own, as tests/replay_expected.py writes them there.
+// `stdout` is what that works out, which shares nothing with this code.
 use scp::Validated;
+use scp_fields::Edition;
 use sequence::Replayed;
 
 fn text(s: &[u8]) {
@@ -39,165 +40,49 @@ fn print_replayed(r: Replayed) {
     }
 }
 
-// The stored checksum, the byte sum, and whether the image is valid.
+// The stored checksum, the byte sum, and by which editions the image is valid.
 fn print_image(image: &[u8]) {
     text(b"image ");
     number(octets::le32(image, 12) as u64);
     number(octets::byte_sum(image) as u64);
-    if let Validated::Valid = scp::validate(image) {
-        text(b"valid");
+    if let Validated::Valid = scp::validate(image, Edition::V1_6) {
+        text(b"valid by 1.6 ");
+    }
+    if let Validated::Valid = scp::validate(image, Edition::V1_4) {
+        text(b"valid by 1.4 ");
     }
     text(b"\n");
 }
 
-// Two places too few, and then enough for every call and three more.
-fn run(image: &mut [u8], calls: &[u64], words: &[u8], few: &mut [u64], answers: &mut [u64]) {
-    print_replayed(sequence::replay(image, calls, words, few));
-    print_rows(few);
-    print_image(image);
-    print_replayed(sequence::replay(image, calls, words, answers));
+// Reads the numbers of a list of calls, each of 8 bytes, the lowest first.
+fn read_calls() -> [u64; 153] {
+    let mut bytes = [0u8; 1224];
+    io::read_full(0, &mut bytes);
+    let mut calls = [0; 153];
+    let mut i = 0;
+    while i < 153 {
+        calls[i] = octets::unsigned(octets::le64(&bytes, 8 * i));
+        i += 1;
+    }
+    calls
+}
+
+// Reads an image, its calls and their words, makes the calls, and shows the answers and what becomes of the image.
+fn run(name: &[u8], image: &mut [u8], answers: &mut [u64]) {
+    text(name);
+    io::read_full(0, image);
+    let calls = read_calls();
+    let mut words = [0; 18];
+    io::read_full(0, &mut words);
+    print_replayed(sequence::replay(image, &calls, &words, answers));
     print_rows(answers);
     print_image(image);
 }
 
+// 21 calls each time: with a place too few for their answers, with three more than they take, and with as many as they take.
 fn main() {
-    let mut buffer = [0u8; 4096];
-    let n = io::read_full(0, &mut buffer);
-    let calls = [
-        0,
-        0,
-        0,
-        0,
-        0,
-        0,
-        1,
-        0,
-        0,
-        0,
-        0,
-        0,
-        2,
-        0,
-        0,
-        0,
-        0,
-        0,
-        3,
-        0,
-        0,
-        0,
-        0,
-        0,
-        4,
-        0,
-        0,
-        0,
-        0,
-        0,
-        5,
-        0,
-        0,
-        0,
-        0,
-        0,
-        6,
-        0,
-        0,
-        0,
-        0,
-        0,
-        7,
-        0,
-        0,
-        0,
-        0,
-        0,
-        8,
-        0,
-        0,
-        8_000_000,
-        0,
-        8,
-        0,
-        0,
-        0,
-        0,
-        0,
-        0,
-        8,
-        0,
-        0,
-        4_296_201_863,
-        8,
-        2,
-        4,
-        0,
-        0,
-        0,
-        0,
-        0,
-        5,
-        0,
-        0,
-        0,
-        0,
-        0,
-        6,
-        0,
-        0,
-        0,
-        0,
-        0,
-        8,
-        0,
-        0,
-        5,
-        0,
-        8,
-        8,
-        1,
-        0,
-        5,
-        0,
-        2,
-        99,
-        0,
-        0,
-        0,
-        0,
-        0,
-        4,
-        1_099_511_627_776,
-        0,
-        0,
-        0,
-        0,
-        8,
-        0,
-        0,
-        0,
-        1000,
-        8,
-        7,
-        0,
-        0,
-        0,
-        0,
-        0,
-        0,
-        0,
-        0,
-        0,
-        0,
-        0,
-        1,
-    ];
-    let words = [0x01, 0x40, 0x00, 0x00, 0x00, 0x01, 0x00, 0xF0, 0x00, 0x05];
-    run(
-        &mut buffer[..n],
-        &calls,
-        &words,
-        &mut [7; 335],
-        &mut [7; 339],
-    );
+    run(b"== a place too few\n", &mut [0; 712], &mut [7; 335]);
+    run(b"== a\n", &mut [0; 712], &mut [7; 339]);
+    run(b"== old_footer\n", &mut [0; 768], &mut [7; 336]);
+    run(b"== string_in_flux\n", &mut [0; 800], &mut [7; 336]);
 }

@@ -1,7 +1,8 @@
-// Rewrites each image that an argument names, each time as its file has it, with the same few rewrites. `stdout` is what
+// Rewrites each image that an argument names, each time as its file has it, with the same few rewrites by each edition. `stdout` is what
 // tests/rewrite_expected.py works out, which shares nothing with this code.
 use refusals::Refusal;
 use scp::Validated;
+use scp_fields::Edition;
 use scp_rewrite::Rewritten;
 
 fn text(s: &[u8]) {
@@ -19,6 +20,13 @@ fn print_refusal(r: Refusal) {
     number(r.number as u64);
     text(b" at");
     number(r.position);
+}
+
+fn print_edition(edition: Edition) {
+    match edition {
+        Edition::V1_4 => text(b"by 1.4"),
+        Edition::V1_6 => text(b"by 1.6"),
+    }
 }
 
 // The byte at i, 0 past the end.
@@ -48,22 +56,16 @@ fn print_changes(before: &[u8], after: &[u8]) {
     }
 }
 
-fn print_words(image: &[u8], at: u16) {
-    let i = at as usize;
-    io::print_hex(1, octets::be16(image, i) as u64, 4);
-    io::print_hex(1, octets::be16(image, i + 2) as u64, 4);
-    io::print_hex(1, octets::be16(image, i + 4) as u64, 4);
-    io::print_hex(1, octets::be16(image, i + 6) as u64, 4);
-}
-
-fn print_judged(image: &[u8]) {
-    match scp::validate(image) {
+fn print_judged(image: &[u8], edition: Edition) {
+    text(b" ");
+    print_edition(edition);
+    match scp::validate(image, edition) {
         Validated::Valid => text(b" valid"),
         Validated::Refused(r) => print_refusal(r),
     }
 }
 
-// The length, the stored checksum, the sum of all bytes, what validating says, and 24 bytes from 0x2B0 on.
+// The length, the stored checksum, the sum of all bytes, and what validating says by each edition.
 fn print_image(image: &[u8]) {
     text(b"length");
     number(image.len() as u64);
@@ -71,16 +73,14 @@ fn print_image(image: &[u8]) {
     number(octets::le32(image, 12) as u64);
     text(b" bytes");
     number(octets::byte_sum(image) as u64);
-    print_judged(image);
-    text(b" ");
-    print_words(image, 688);
-    print_words(image, 696);
-    print_words(image, 704);
+    print_judged(image, Edition::V1_6);
+    print_judged(image, Edition::V1_4);
     text(b"\n");
 }
 
-fn print_asked(t: u32, k: u32, duration: u32, n: usize) {
-    text(b"track");
+fn print_asked(edition: Edition, t: u32, k: u32, duration: u32, n: usize) {
+    print_edition(edition);
+    text(b" track");
     number(t as u64);
     text(b" turn");
     number(k as u64);
@@ -91,22 +91,42 @@ fn print_asked(t: u32, k: u32, duration: u32, n: usize) {
     text(b":");
 }
 
-// Rewrites the image, and shows it beside what it was.
-fn rewrite(image: &mut [u8], before: &[u8], t: u32, k: u32, duration: u32, words: &[u8]) {
-    print_asked(t, k, duration, words.len());
-    match scp_rewrite::rewrite(image, t, k, duration, words) {
-        Rewritten::Done => text(b" done"),
-        Rewritten::Refused(r) => print_refusal(r),
+// Rewrites the image, and shows it beside what it was: a refused rewrite changes no byte.
+fn rewrite(
+    image: &mut [u8],
+    edition: Edition,
+    before: &[u8],
+    t: u32,
+    k: u32,
+    duration: u32,
+    words: &[u8],
+) {
+    print_asked(edition, t, k, duration, words.len());
+    match scp_rewrite::rewrite(image, edition, t, k, duration, words) {
+        Rewritten::Done => {
+            text(b" done");
+            print_changes(before, image);
+            text(b"\n");
+            print_image(image);
+        }
+        Rewritten::Refused(r) => {
+            print_refusal(r);
+            print_changes(before, image);
+            text(b"\n");
+        }
     }
-    text(b"\n");
-    print_image(image);
-    text(b"changed");
-    print_changes(before, image);
-    text(b"\n");
 }
 
 // Reads the file anew, and rewrites it.
-fn attempt(name: &[u8], before: &[u8], t: u32, k: u32, duration: u32, words: &[u8]) {
+fn attempt(
+    name: &[u8],
+    edition: Edition,
+    before: &[u8],
+    t: u32,
+    k: u32,
+    duration: u32,
+    words: &[u8],
+) {
     let fd = os::open_read(name);
     if fd < 0 {
         os::fail(name);
@@ -115,39 +135,56 @@ fn attempt(name: &[u8], before: &[u8], t: u32, k: u32, duration: u32, words: &[u
     let mut buffer = io::large_buffer();
     let n = io::read_full(fd, &mut buffer);
     libc::close(fd);
-    rewrite(&mut buffer[..n], before, t, k, duration, words);
+    rewrite(&mut buffer[..n], edition, before, t, k, duration, words);
 }
 
 // Track 0, revolution 0: as many words as image A has, fewer, none, an odd number of bytes, and too many.
-fn first_track(name: &[u8], before: &[u8]) {
-    attempt(name, before, 0, 0, 8_000_000, &[1, 64, 0, 0, 0, 1, 0, 240]);
-    attempt(name, before, 0, 0, 4_294_967_295, b"abcd");
-    attempt(name, before, 0, 0, 1, b"");
-    attempt(name, before, 0, 0, 0, b"abc");
-    attempt(name, before, 0, 0, 0, b"abcdefghij");
+fn first_track(name: &[u8], edition: Edition, before: &[u8]) {
+    attempt(
+        name,
+        edition,
+        before,
+        0,
+        0,
+        8_000_000,
+        &[1, 64, 0, 0, 0, 1, 0, 240],
+    );
+    attempt(name, edition, before, 0, 0, 4_294_967_295, b"abcd");
+    attempt(name, edition, before, 0, 0, 1, b"");
+    attempt(name, edition, before, 0, 0, 0, b"abc");
+    attempt(name, edition, before, 0, 0, 0, b"abcdefghij");
 }
 
 // Other revolutions, one of them with an odd number of bytes.
-fn other_turns(name: &[u8], before: &[u8]) {
-    attempt(name, before, 0, 1, 2, b"ab");
-    attempt(name, before, 0, 4, 3, b"");
-    attempt(name, before, 0, 5, 4, b"abc");
-    attempt(name, before, 0, 4_294_967_295, 5, b"");
+fn other_turns(name: &[u8], edition: Edition, before: &[u8]) {
+    attempt(name, edition, before, 0, 1, 2, b"ab");
+    attempt(name, edition, before, 0, 4, 3, b"");
+    attempt(name, edition, before, 0, 5, 4, b"abc");
+    attempt(name, edition, before, 0, 4_294_967_295, 5, b"");
 }
 
 // The last of 6 revolutions, the middle and the last of 255.
-fn far_turns(name: &[u8], before: &[u8]) {
-    attempt(name, before, 0, 5, 12, b"ab");
-    attempt(name, before, 0, 127, 10, b"ab");
-    attempt(name, before, 0, 254, 11, b"ab");
+fn far_turns(name: &[u8], edition: Edition, before: &[u8]) {
+    attempt(name, edition, before, 0, 5, 12, b"ab");
+    attempt(name, edition, before, 0, 127, 10, b"ab");
+    attempt(name, edition, before, 0, 254, 11, b"ab");
 }
 
-// Other tracks, two of them never present.
-fn other_tracks(name: &[u8], before: &[u8]) {
-    attempt(name, before, 1, 0, 6, b"ab");
-    attempt(name, before, 167, 0, 7, b"");
-    attempt(name, before, 168, 5, 8, b"abc");
-    attempt(name, before, 4_294_967_295, 0, 9, b"");
+// Other tracks: the last of each edition, and those past it.
+fn other_tracks(name: &[u8], edition: Edition, before: &[u8]) {
+    attempt(name, edition, before, 1, 0, 6, b"ab");
+    attempt(name, edition, before, 165, 0, 13, b"ab");
+    attempt(name, edition, before, 166, 0, 14, b"");
+    attempt(name, edition, before, 167, 0, 7, b"");
+    attempt(name, edition, before, 168, 5, 8, b"abc");
+    attempt(name, edition, before, 4_294_967_295, 0, 9, b"");
+}
+
+fn try_all(name: &[u8], edition: Edition, before: &[u8]) {
+    first_track(name, edition, before);
+    other_turns(name, edition, before);
+    far_turns(name, edition, before);
+    other_tracks(name, edition, before);
 }
 
 // Reads the file that argument i names, and tries all the rewrites.
@@ -167,10 +204,9 @@ fn show_file(i: usize) {
     let n = io::read_full(fd, &mut buffer);
     libc::close(fd);
     let before = &buffer[..n];
-    first_track(name, before);
-    other_turns(name, before);
-    far_turns(name, before);
-    other_tracks(name, before);
+    print_image(before);
+    try_all(name, Edition::V1_6, before);
+    try_all(name, Edition::V1_4, before);
 }
 
 fn main() {

@@ -1,5 +1,5 @@
-// Lists each image that an argument names, and asks it all the questions. `stdout` is what tests/scp_images.py works out, which shares
-// nothing with this code.
+// Lists each image that an argument names, and asks it all the questions by revision 1.6 and some by 1.4. `stdout` is what
+// tests/scp_images.py works out, which shares nothing with this code.
 use flux::Filled;
 use refusals::Refusal;
 use scp::FooterAnswer;
@@ -9,6 +9,8 @@ use scp::SpeedAnswer;
 use scp::TrackAnswer;
 use scp::TrackData;
 use scp::TrackSpeedAnswer;
+use scp::Validated;
+use scp_fields::Edition;
 use scp_lookup::RevolutionAnswer;
 use scp_open::Header;
 use scp_speed::Speed;
@@ -93,8 +95,8 @@ fn header_fields(h: Header) {
 }
 
 // The header's fields, or why every question is refused; whether there is more to ask.
-fn print_header(image: &[u8]) -> bool {
-    match scp::header(image) {
+fn print_header(image: &[u8], edition: Edition) -> bool {
+    match scp::header(image, edition) {
         HeaderAnswer::Found(h) => {
             header_fields(h);
             newline();
@@ -124,9 +126,9 @@ fn footer_fields(f: FooterData) {
     number_8(f.format);
 }
 
-fn print_footer(image: &[u8]) {
+fn print_footer(image: &[u8], edition: Edition) {
     text(b"footer");
-    match scp::footer(image) {
+    match scp::footer(image, edition) {
         FooterAnswer::Found(f) => footer_fields(f),
         FooterAnswer::None => text(b" none"),
         FooterAnswer::Refused(r) => print_refusal(r),
@@ -140,17 +142,17 @@ fn print_rpm(s: Speed) {
     }
 }
 
-fn print_speed(image: &[u8], t: u32, k: u32) {
+fn print_speed(image: &[u8], edition: Edition, t: u32, k: u32) {
     text(b" speed");
-    match scp::speed(image, t, k) {
+    match scp::speed(image, edition, t, k) {
         SpeedAnswer::Found(s) => print_rpm(s),
         SpeedAnswer::Refused(r) => print_refusal(r),
     }
 }
 
-fn print_intervals(image: &[u8], t: u32, k: u32) {
+fn print_intervals(image: &[u8], edition: Edition, t: u32, k: u32) {
     text(b" intervals");
-    match scp::revolution_intervals(image, t, k, &mut [0; 2]) {
+    match scp::revolution_intervals(image, edition, t, k, &mut [0; 2]) {
         Filled::Places { filled, open } => {
             field(b" filled ", filled as u64);
             field(b" open ", open);
@@ -166,18 +168,18 @@ fn revolution_fields(d: RevolutionData) {
     number(offset.0);
 }
 
-fn print_flux(image: &[u8], t: u32, k: u32) {
-    field(b" flux ", scp::flux(image, t, k).len() as u64);
+fn print_flux(image: &[u8], edition: Edition, t: u32, k: u32) {
+    field(b" flux ", scp::flux(image, edition, t, k).len() as u64);
 }
 
-fn print_revolution(image: &[u8], t: u32, k: u32) {
+fn print_revolution(image: &[u8], edition: Edition, t: u32, k: u32) {
     title(b"turn ", k);
-    match scp::revolution(image, t, k) {
+    match scp::revolution(image, edition, t, k) {
         RevolutionAnswer::Found(d) => {
             revolution_fields(d);
-            print_flux(image, t, k);
-            print_speed(image, t, k);
-            print_intervals(image, t, k);
+            print_flux(image, edition, t, k);
+            print_speed(image, edition, t, k);
+            print_intervals(image, edition, t, k);
             newline();
         }
         RevolutionAnswer::Refused(r) => {
@@ -192,9 +194,9 @@ fn speed_fields(s: TrackSpeeds) {
     flag(b" fastest 300", s.fastest == 300.0);
 }
 
-fn print_speeds(image: &[u8], t: u32) {
+fn print_speeds(image: &[u8], edition: Edition, t: u32) {
     text(b"speeds");
-    match scp::track_speed(image, t) {
+    match scp::track_speed(image, edition, t) {
         TrackSpeedAnswer::Found(s) => speed_fields(s),
         TrackSpeedAnswer::None => text(b" none"),
         TrackSpeedAnswer::Refused(r) => print_refusal(r),
@@ -210,27 +212,38 @@ fn track_fields(d: TrackData) {
 }
 
 // The first, the last of 5, 6, 9, 200 and 255, the middle of 255, and two that no track has.
-fn print_revolutions(image: &[u8], t: u32) {
-    print_revolution(image, t, 0);
-    print_revolution(image, t, 4);
-    print_revolution(image, t, 5);
-    print_revolution(image, t, 8);
-    print_revolution(image, t, 127);
-    print_revolution(image, t, 199);
-    print_revolution(image, t, 254);
-    print_revolution(image, t, 255);
-    print_revolution(image, t, u32::MAX);
+fn all_revolutions(image: &[u8], edition: Edition, t: u32) {
+    print_revolution(image, edition, t, 0);
+    print_revolution(image, edition, t, 4);
+    print_revolution(image, edition, t, 5);
+    print_revolution(image, edition, t, 8);
+    print_revolution(image, edition, t, 127);
+    print_revolution(image, edition, t, 199);
+    print_revolution(image, edition, t, 254);
+    print_revolution(image, edition, t, 255);
+    print_revolution(image, edition, t, u32::MAX);
 }
 
-fn print_track(image: &[u8], t: u32) {
+// By 1.4 the first and the last of 255.
+fn print_revolutions(image: &[u8], edition: Edition, t: u32) {
+    match edition {
+        Edition::V1_4 => {
+            print_revolution(image, edition, t, 0);
+            print_revolution(image, edition, t, 254);
+        }
+        Edition::V1_6 => all_revolutions(image, edition, t),
+    }
+}
+
+fn print_track(image: &[u8], edition: Edition, t: u32) {
     title(b"track ", t);
-    match scp::track(image, t) {
+    match scp::track(image, edition, t) {
         TrackAnswer::Found(d) => {
             track_fields(d);
             newline();
-            print_speeds(image, t);
+            print_speeds(image, edition, t);
             newline();
-            print_revolutions(image, t);
+            print_revolutions(image, edition, t);
         }
         TrackAnswer::Refused(r) => {
             print_refusal(r);
@@ -239,21 +252,34 @@ fn print_track(image: &[u8], t: u32) {
     }
 }
 
-fn ask(image: &[u8]) {
-    if print_header(image) {
-        print_footer(image);
+fn ask(image: &[u8], edition: Edition) {
+    if print_header(image, edition) {
+        print_footer(image, edition);
         newline();
-        print_track(image, 0);
-        print_track(image, 1);
-        print_track(image, 167);
-        print_track(image, 168);
-        print_track(image, u32::MAX);
+        print_track(image, edition, 0);
+        print_track(image, edition, 1);
+        print_track(image, edition, 165);
+        print_track(image, edition, 166);
+        print_track(image, edition, 167);
+        print_track(image, edition, 168);
+        print_track(image, edition, u32::MAX);
     }
+}
+
+fn judge_by_1_4(image: &[u8]) {
+    text(b"by 1.4:");
+    match scp::validate(image, Edition::V1_4) {
+        Validated::Valid => text(b" valid"),
+        Validated::Refused(r) => print_refusal(r),
+    }
+    newline();
 }
 
 fn show(image: &[u8]) {
     scp_listing::list(image);
-    ask(image);
+    ask(image, Edition::V1_6);
+    judge_by_1_4(image);
+    ask(image, Edition::V1_4);
 }
 
 // Reads the file that argument i names, and shows it.
