@@ -17,6 +17,7 @@ pub mod dsk_image;
 pub mod dsk_layouts;
 pub mod dsk_question;
 pub mod dsk_writing;
+pub mod edition;
 pub mod generate;
 pub mod guarded;
 pub mod image;
