@@ -4,7 +4,7 @@ use crate::ask::{agree_on, Case};
 use crate::edition::{is_1_4, some_number, some_row_number, V1_4, V1_6};
 use crate::generate;
 use crate::image::{duration_at, entry_at, flux_bytes, number_at};
-use crate::question::{Asked, Question};
+use crate::question::{number, Asked, Question};
 use crate::random::Random;
 use crate::sequence::{ANSWER, CALL, EDITION};
 use scp::Edition;
@@ -89,6 +89,28 @@ pub fn some_questions(image: &[u8], tracks: &[u32], revolutions: &[u32]) -> Vec<
     asked
 }
 
+/// Asks both about the first, the middle and the last revolution of the first, a middle and the last track, rewrites one on each, and asks for
+/// one that is not there; panics where they differ, or where any but the last is refused.
+pub fn answer_some(image: &[u8], edition: Edition, last_track: u32) {
+    let (tracks, revolutions) = ([0, last_track / 2, last_track], first_middle_last(image));
+    let mut asked = some_questions(image, &tracks, &revolutions);
+    for (track, revolution) in tracks.into_iter().zip(revolutions) {
+        let flux = scp::flux(image, edition, track, revolution).expect("it is there");
+        asked.push(Asked::Rewrite { track, revolution, duration: 8_000_000, words: flux.iter().rev().copied().collect() });
+    }
+    for question in asked.into_iter().map(|asked| asked.by(edition.number())) {
+        assert_eq!(number(image, &question), Ok(0), "{question:?}");
+    }
+    let absent = Asked::Revolution { track: last_track, revolution: self::revolutions(image), places: 3 };
+    assert_eq!(number(image, &absent.by(edition.number())), Ok(14));
+}
+
+/// The first, the middle and the last revolution of an image.
+pub fn first_middle_last(image: &[u8]) -> [u32; 3] {
+    let count = revolutions(image);
+    [0, count / 2, count.saturating_sub(1)]
+}
+
 /// Puts every question on the image to both, and one rewrite of each present revolution, by both editions; panics where they differ.
 pub fn agree(name: &str, image: &[u8]) {
     for edition in Edition::ALL {
@@ -168,15 +190,18 @@ fn rewrite(image: &[u8], track: u32, revolution: u32, random: &mut Random) -> As
     Asked::Rewrite { track, revolution, duration: generate::duration(random), words }
 }
 
-/// Words for a rewrite; two of them may be a string of one character, or of none.
+/// Words for a rewrite: any, or all of them a string.
 fn new_words(image: &[u8], track: u32, revolution: u32, random: &mut Random) -> Vec<u8> {
     let most = count(image, track, revolution).min(64) as usize;
+    if most > 1 && random.once_in(8) {
+        return generate::string_bytes(2 * most, random);
+    }
     let words = match random.below(6) {
         0 => most + 1,
         1 => most,
         _ => random.between(0, most),
     };
-    let words: Vec<u16> = (0..words).map(|_| random.pick(&[0, 1, 0x0100, 0x0140, 0x1234, 0x4100, 0xABCD, 0xFFFF])).collect();
+    let words: Vec<u16> = (0..words).map(|_| random.pick(&[0, 1, 0x0140, 0x1234, 0xABCD, 0xFFFF])).collect();
     let mut bytes = flux_bytes(&words);
     if random.once_in(12) {
         bytes.push(0);
@@ -201,7 +226,7 @@ fn sequence_case(random: &mut Random) -> Case<Question> {
 }
 
 /// Calls, most of them rewrites and questions of the same few revolutions, by one edition or by both, and their words.
-fn sequence(bytes: &[u8], random: &mut Random) -> (Vec<u64>, Vec<u8>) {
+pub fn sequence(bytes: &[u8], random: &mut Random) -> (Vec<u64>, Vec<u8>) {
     let (mut calls, mut words) = (Vec::new(), Vec::new());
     let tracks = [some_track(bytes, random), some_track(bytes, random)];
     let editions = random.pick(&[&Edition::ALL[..1], &Edition::ALL[1..], &Edition::ALL, &Edition::ALL]);

@@ -127,12 +127,12 @@ fn footer(random: &mut Random) -> FooterPart {
 /// Lets a part overlap another where that leaves the image openable by an edition, or nearly so.
 fn overlap(parts: &Parts, placed: &mut Placed, random: &mut Random) {
     for _ in 0..random.between(1, 3) {
-        match random.below(8) {
+        match random.below(10) {
             0 => share_string(parts, placed, random),
             1 => header_in_header(parts, placed, random),
-            2 => string_in_flux(parts, placed, random),
-            3 => move_header(parts, placed, random),
-            4 => feign_footer(&mut placed.image, random),
+            2 | 3 => string_in_flux(parts, placed, random),
+            4 => move_header(parts, placed, random),
+            5 => feign_footer(&mut placed.image, random),
             _ => move_flux(parts, placed, random),
         }
     }
@@ -213,20 +213,29 @@ fn put_header(parts: &Parts, placed: &mut Placed, track: usize, place: usize, ra
     }
 }
 
-/// Has a string of the footer lie in the flux of a revolution; now and then its closing zero is another byte.
+/// Has a string of the footer lie in the flux of a revolution, mostly from its first byte to its last; now and then its closing zero is
+/// another byte.
 fn string_in_flux(parts: &Parts, placed: &mut Placed, random: &mut Random) {
     let Some((track, revolution)) = some_revolution(parts, random) else { return };
     let room = 2 * parts.tracks[track].revolutions[revolution].words.len();
     if parts.footer.is_none() || room < 4 {
         return;
     }
-    let size = random.between(0, room - 3);
-    let place = placed.flux[track][revolution] + random.below(room - 2 - size);
-    let closing = if random.once_in(4) { random.byte() } else { 0 };
-    let text: Vec<u8> = (0..size).map(|_| random.byte().max(1)).collect();
-    set(&mut placed.image, place, &[&(size as u16).to_le_bytes(), &text[..], &[closing]].concat());
+    let size = if random.once_in(3) { random.between(3, room) } else { room };
+    let place = placed.flux[track][revolution] + random.between(0, room - size);
+    let mut bytes = string_bytes(size, random);
+    if random.once_in(3) {
+        bytes[size - 1] = random.byte();
+    }
+    set(&mut placed.image, place, &bytes);
     let slot = placed.image.len() - FOOTER_SIZE + 4 * random.below(6);
     set(&mut placed.image, slot, &(place as u32).to_le_bytes());
+}
+
+/// A string that takes so many bytes, at least 3.
+pub fn string_bytes(size: usize, random: &mut Random) -> Vec<u8> {
+    let text: Vec<u8> = (3..size).map(|_| random.byte().max(1)).collect();
+    [&(text.len() as u16).to_le_bytes(), &text[..], &[0]].concat()
 }
 
 /// Makes a footer of the last bytes, whatever they are: its sign and its version, and now and then that it has no strings.

@@ -1,7 +1,7 @@
 //! Images of few and of many revolutions, read-only and read/write (L-3, R-4): validated, read, rewritten, and compared.
 
 use scp::Edition;
-use scp_compare::cases::{agree, revolutions, some_questions};
+use scp_compare::cases::{agree, answer_some, first_middle_last, revolutions};
 use scp_compare::edition::{V1_4, V1_6};
 use scp_compare::image::{duration_at, set, store_checksum};
 use scp_compare::outside::{image, Style, CAPTURE};
@@ -21,12 +21,6 @@ fn three_tracks(revolutions: u8, read_write: bool) -> Style {
 fn accepted() -> Vec<Vec<u8>> {
     let read_only = NUMBERS.into_iter().filter(|&revolutions| revolutions > 0).map(|revolutions| three_tracks(revolutions, false));
     read_only.chain([three_tracks(1, true)]).map(|style| image(&style, 4)).collect()
-}
-
-/// The first, the middle and the last revolution of an image.
-fn first_middle_last(image: &[u8]) -> [u32; 3] {
-    let count = revolutions(image);
-    [0, count / 2, count.saturating_sub(1)]
 }
 
 /// What a revolution reads as: its duration and its words.
@@ -128,28 +122,12 @@ fn what_refuses_the_last_of_255_revolutions() {
     }
 }
 
-/// Asks both about the first, the middle and the last revolution of the first, a middle and the last track, rewrites one on each, and asks for
-/// one that is not there.
-fn agree_on_some(image: &[u8], last_track: u32) {
-    let (tracks, asked) = ([0, last_track / 2, last_track], first_middle_last(image));
-    let mut questions = some_questions(image, &tracks, &asked);
-    for (track, revolution) in tracks.into_iter().zip(asked) {
-        let words = scp::flux(image, Edition::V1_6, track, revolution).unwrap().iter().rev().copied().collect();
-        questions.push(Asked::Rewrite { track, revolution, duration: 8_000_000, words });
-    }
-    for question in questions.into_iter().map(|asked| asked.by(V1_6)) {
-        assert_eq!(number(image, &question), Ok(0), "{question:?}");
-    }
-    let absent = Asked::Revolution { track: last_track, revolution: revolutions(image), places: 3 };
-    assert_eq!(number(image, &absent.by(V1_6)), Ok(14));
-}
-
 #[test]
 fn a_capture_of_nine_revolutions_in_its_real_size_is_read_and_rewritten() {
     // 80 cylinders, 200 ms a revolution: 33,333 intervals of 240 ticks on average
     let capture = image(&Style { revolutions: 9, ..CAPTURE }, 33_333);
     assert!(capture.len() > 90_000_000, "{} bytes", capture.len());
-    agree_on_some(&capture, 159);
+    answer_some(&capture, Edition::V1_6, 159);
     let flux = scp::flux(&capture, Edition::V1_6, 159, 8).unwrap();
     assert_eq!(number(flux, &Question::Intervals { times: 33_333, places: 2 }), Ok(0));
 }
@@ -157,5 +135,5 @@ fn a_capture_of_nine_revolutions_in_its_real_size_is_read_and_rewritten() {
 #[test]
 fn the_most_tracks_of_the_most_revolutions_are_read_and_rewritten() {
     let image = image(&Style { revolutions: 255, last_track: 167, ..CAPTURE }, 3);
-    agree_on_some(&image, 167);
+    answer_some(&image, Edition::V1_6, 167);
 }
