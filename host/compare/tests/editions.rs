@@ -38,12 +38,19 @@ fn empty(size: usize) -> Vec<u8> {
     changed(&image, |_| ())
 }
 
-/// An image of so many bytes with the data header of track 0 at a place: one revolution without words.
-fn with_header_at(place: usize, size: usize) -> Vec<u8> {
-    changed(&empty(size), |image| {
-        set(image, place, b"TRK\0");
-        set(image, entry_at(0), &(place as u32).to_le_bytes());
+/// The image, with the data header of a track at a place: one revolution without words.
+fn with_header_at(image: &[u8], track: u8, place: usize) -> Vec<u8> {
+    changed(image, |image| {
+        set(image, entry_at(track.into()), &(place as u32).to_le_bytes());
+        set(image, place, &[b'T', b'R', b'K', track]);
+        set(image, place + 4, &[0; 12]);
     })
+}
+
+/// The image, with the flux of track 1 at a place.
+fn with_flux_at(image: &[u8], place: usize) -> Vec<u8> {
+    let header = number_at(image, entry_at(1)) as usize;
+    changed(image, |image| set(image, duration_at(header, 0) + 8, &((place - header) as u32).to_le_bytes()))
 }
 
 // ---- images laid out for 1.4
@@ -154,17 +161,17 @@ fn lengths_at_the_edges() {
 fn headers_at_the_edges() {
     for place in 676..=700 {
         let below = |table_end| (place < table_end).then_some((10, 0));
-        assert_eq!(refused(&with_header_at(place, place + 16)), [below(680), below(688)], "at {place}");
-        assert_eq!(refused(&with_header_at(place, place + 15)), [Some((10, 0)); 2], "at {place}, a byte too short");
+        assert_eq!(refused(&with_header_at(&empty(place + 16), 0, place)), [below(680), below(688)], "at {place}");
+        assert_eq!(refused(&with_header_at(&empty(place + 15), 0, place)), [Some((10, 0)); 2], "at {place}, a byte too short");
     }
 }
 
 #[test]
 fn spans_and_tracks_at_the_edges() {
-    for (end, due) in [(164, [None, None]), (165, [None, None]), (166, [Some(5), None]), (167, [Some(5), None]), (168, [Some(5), Some(5)])]
-    {
+    for end in 160..=170 {
+        let above = |last| (end > last).then_some((5, 0));
         let image = changed(&empty(688), |image| image[END_TRACK] = end);
-        assert_eq!(refused(&image), due.map(|number| number.map(|number| (number, 0))), "end track {end}");
+        assert_eq!(refused(&image), [above(165), above(167)], "end track {end}");
     }
     for last_track in [165, 167] {
         let style = Style { last_track, revolutions: 1, ..CAPTURE };
@@ -188,13 +195,7 @@ fn footed() -> Vec<u8> {
 fn a_footer_means_nothing_by_1_4() {
     let sound = footed();
     let (end, footer) = (sound.len(), sound.len() - FOOTER_SIZE);
-    let header = number_at(&sound, entry_at(1)) as usize;
-    let distance = |image: &mut [u8], place: usize| set(image, duration_at(header, 0) + 8, &((place - header) as u32).to_le_bytes());
     let application = footer + 4 * 4;
-    let moved_header = |image: &mut [u8], place: usize| {
-        set(image, entry_at(1), &(place as u32).to_le_bytes());
-        set(image, place, b"TRK\x01\x01\0\0\0\0\0\0\0\0\0\0\0");
-    };
     let put = |place: usize, bytes: &[u8]| changed(&sound, |image| set(image, place, bytes));
     for (name, image, due) in [
         ("sound", sound.clone(), [None, None]),
@@ -203,14 +204,14 @@ fn a_footer_means_nothing_by_1_4() {
         ("a string in the footer", put(application, &(footer as u32).to_le_bytes()), [None, Some((8, 4))]),
         ("a string below 688", put(application, &680u32.to_le_bytes()), [None, Some((8, 4))]),
         ("a string far away", put(application, &[0xFF; 4]), [None, Some((8, 4))]),
-        ("flux up to the footer", changed(&sound, |image| distance(image, footer - 60)), [None, None]),
-        ("flux with its last byte in the footer", changed(&sound, |image| distance(image, footer - 59)), [None, Some((11, 1))]),
-        ("flux up to the end", changed(&sound, |image| distance(image, end - 60)), [None, Some((11, 1))]),
-        ("flux past the end", changed(&sound, |image| distance(image, end - 59)), [Some((11, 1)), Some((11, 1))]),
-        ("a header up to the footer", changed(&sound, |image| moved_header(image, footer - 16)), [None, None]),
-        ("a header in the footer", changed(&sound, |image| moved_header(image, footer + 24)), [None, Some((10, 1))]),
-        ("a header up to the end", changed(&sound, |image| moved_header(image, end - 16)), [None, Some((7, 0))]),
-        ("a header past the end", changed(&sound, |image| moved_header(image, end - 15)), [Some((10, 1)), Some((10, 1))]),
+        ("flux up to the footer", with_flux_at(&sound, footer - 60), [None, None]),
+        ("flux with its last byte in the footer", with_flux_at(&sound, footer - 59), [None, Some((11, 1))]),
+        ("flux up to the end", with_flux_at(&sound, end - 60), [None, Some((11, 1))]),
+        ("flux past the end", with_flux_at(&sound, end - 59), [Some((11, 1)), Some((11, 1))]),
+        ("a header up to the footer", with_header_at(&sound, 1, footer - 16), [None, None]),
+        ("a header in the footer", with_header_at(&sound, 1, footer + 24), [None, Some((10, 1))]),
+        ("a header up to the end", with_header_at(&sound, 1, end - 16), [None, Some((7, 0))]),
+        ("a header past the end", with_header_at(&sound, 1, end - 15), [Some((10, 1)), Some((10, 1))]),
     ] {
         assert_eq!(refused(&image), due, "{name}");
         assert_eq!(scp::footer(&image, V1_4).ok(), due[0].is_none().then_some(None), "{name}");
@@ -219,10 +220,8 @@ fn a_footer_means_nothing_by_1_4() {
 
 #[test]
 fn a_rewrite_by_1_4_may_overwrite_a_footer() {
-    let mut image = footed();
-    let (header, place) = (number_at(&image, entry_at(1)) as usize, image.len() - 60);
-    set(&mut image, duration_at(header, 0) + 8, &((place - header) as u32).to_le_bytes());
-    store_checksum(&mut image);
+    let footed = footed();
+    let mut image = with_flux_at(&footed, footed.len() - 60);
     let words = flux_bytes(&[7; 30]);
     let calls = [Call::Rewrite { track: 1, revolution: 0, duration: 5, words }, Call::Validate];
     assert_eq!(scp::replay(&mut image, V1_4, &calls), [Ok(Answer::Rewritten), Ok(Answer::Valid)]);
@@ -233,7 +232,7 @@ fn a_rewrite_by_1_4_may_overwrite_a_footer() {
 #[test]
 fn a_rewrite_by_1_4_may_stand_where_1_6_has_two_entries() {
     for place in 680..688 {
-        let mut image = with_header_at(place, place + 16);
+        let mut image = with_header_at(&empty(place + 16), 0, place);
         assert_eq!(scp::rewrite(&mut image, V1_6, 0, 0, 5, &[]).unwrap_err().reason, Reason::Track);
         assert_eq!(scp::rewrite(&mut image, V1_4, 0, 0, 5, &[]), Ok(()), "at {place}");
         assert_eq!((number_at(&image, place + 4), refused(&image)), (5, [None, Some((10, 0))]));
