@@ -12,15 +12,18 @@ mod disks;
 mod plain;
 mod plain_dsk;
 
-use scp::raw;
+use scp::{raw, Edition};
 use scp_compare::image::flux_bytes;
-use scp_compare::outside::{flux_words, image, image_a_with_flux, Style, CAPTURE, READ_WRITE};
+use scp_compare::outside::{flux_words, image, image_a_with_flux, Style, CAPTURE, CAPTURE_1_4, READ_WRITE};
 use scp_compare::random::Random;
 use std::hint::black_box;
 use std::time::Instant;
 
 /// A capture of the most tracks and revolutions that an image may have.
 const FULLEST: Style = Style { last_track: 167, revolutions: 255, ..CAPTURE };
+
+/// A capture of the most tracks that revision 1.4 has.
+const ALL_TRACKS_1_4: Style = Style { last_track: 165, ..CAPTURE_1_4 };
 
 fn main() {
     let rounds = std::env::args().nth(1).and_then(|word| word.parse().ok()).unwrap_or(31).max(3);
@@ -42,7 +45,7 @@ fn main() {
 
 /// The head of a table of ratios.
 fn say_columns(what: &str) {
-    println!("{what:<70} {:>7} {:>16}", "ratio", "spread");
+    println!("{what:<78} {:>7} {:>16}", "ratio", "spread");
 }
 
 /// Times so many calls of both, and prints the ratio of the library by plain Rust.
@@ -56,7 +59,7 @@ fn beside(name: &str, rounds: usize, mut first: (usize, impl FnMut() -> u64), mu
     let mut ratios: Vec<f64> = (0..rounds).map(|_| seconds(first.0, &mut first.1) / seconds(second.0, &mut second.1)).collect();
     ratios.sort_by(f64::total_cmp);
     let at = |hundredth: usize| ratios[hundredth * (rounds - 1) / 100];
-    println!("{name:<70} {:>7.2} {:>7.2} to {:>5.2}", at(50), at(10), at(90));
+    println!("{name:<78} {:>7.2} {:>7.2} to {:>5.2}", at(50), at(10), at(90));
 }
 
 /// Seconds that so many calls take.
@@ -73,17 +76,28 @@ fn code<T>(answer: Result<T, plain::Refused>) -> u64 {
     answer.err().map_or(0, |(number, position)| u64::from(number) + 256 * position)
 }
 
-/// Validating 200 MiB.
+/// What a row about an image of the edition is called: nothing more by revision 1.6.
+fn by(edition: Edition) -> &'static str {
+    match edition {
+        Edition::V1_4 => ", by 1.4",
+        Edition::V1_6 => "",
+    }
+}
+
+/// Validating 200 MiB, by both editions.
 fn validate(rounds: usize) {
-    let image = image(&CAPTURE, 131_100);
-    assert!(image.len() >= 200 << 20, "the image has 200 MiB");
-    let library = || raw::validate(black_box(&image));
-    ratio("validate 200 MiB", rounds.min(15), 1, library, || code(plain::validate(black_box(&image))));
-    let read = || {
-        black_box(plain::read_memory(black_box(&image)));
-        0
-    };
-    ratio("validate 200 MiB, beside a plain read of the memory", rounds.min(15), 1, library, read);
+    for style in [CAPTURE, CAPTURE_1_4] {
+        let (image, edition, by) = (image(&style, 131_100), style.edition, by(style.edition));
+        assert!(image.len() >= 200 << 20, "the image has 200 MiB");
+        let library = || raw::validate(black_box(&image), edition.number());
+        let plain = || code(plain::validate(black_box(&image), black_box(edition)));
+        ratio(&format!("validate 200 MiB{by}"), rounds.min(15), 1, library, plain);
+        let read = || {
+            black_box(plain::read_memory(black_box(&image)));
+            0
+        };
+        ratio(&format!("validate 200 MiB{by}, beside a plain read of the memory"), rounds.min(15), 1, library, read);
+    }
 }
 
 /// The byte sum of 256 KiB of flux, which the cache holds: a row of a replay.
@@ -92,33 +106,33 @@ fn summing(rounds: usize) {
     let other = mine.clone();
     let library = || {
         let mut row = [0; 16];
-        raw::replay(black_box(&mut mine), &[5, 0, 0, 0, 0, 0], &[], &mut row) + row[0] + row[4]
+        raw::replay(black_box(&mut mine), &[5, 0, 0, 0, 0, 0, 16], &[], &mut row) + row[0] + row[4]
     };
-    let plain = || match plain::flux_sum(black_box(&other), 0, 0) {
+    let plain = || match plain::flux_sum(black_box(&other), black_box(Edition::V1_6), 0, 0) {
         Ok(sum) => sum.into(),
         Err(refused) => code::<()>(Err(refused)),
     };
     ratio("sum 256 KiB of flux, as a row of a replay", rounds, 200, library, plain);
 }
 
-/// Opening an image and asking one question: of 80 tracks, and of the most tracks and revolutions.
+/// Opening an image and asking one question: of 80 tracks, of the most tracks and revolutions, and of the most tracks by revision 1.4.
 fn question(rounds: usize) {
-    for (tracks, times, style) in [(80, 2000, Style { heads: 1, ..CAPTURE }), (168, 50, FULLEST)] {
-        let image = image(&style, 100);
-        let library = || ask(black_box(&image));
-        let plain = || match plain::revolution(black_box(&image), 16, 2) {
+    for (tracks, times, style) in [(80, 2000, Style { heads: 1, ..CAPTURE }), (168, 50, FULLEST), (166, 1000, ALL_TRACKS_1_4)] {
+        let (image, edition) = (image(&style, 100), style.edition);
+        let library = || ask(black_box(&image), edition);
+        let plain = || match plain::revolution(black_box(&image), black_box(edition), 16, 2) {
             Ok(found) => u64::from(found.duration) + u64::from(found.words) + found.place,
             Err((number, position)) => u64::from(number) + 256 * position,
         };
-        let revolutions = style.revolutions;
-        ratio(&format!("open {tracks} tracks of {revolutions} revolutions and ask for one"), rounds, times, library, plain);
+        let (revolutions, by) = (style.revolutions, by(edition));
+        ratio(&format!("open {tracks} tracks of {revolutions} revolutions and ask for one{by}"), rounds, times, library, plain);
     }
 }
 
 /// The numbers of a revolution, added.
-fn ask(image: &[u8]) -> u64 {
+fn ask(image: &[u8], edition: Edition) -> u64 {
     let mut out = [0; 3];
-    assert_eq!(raw::revolution(image, 16, 2, &mut out), 0, "the revolution is there");
+    assert_eq!(raw::revolution(image, edition.number(), 16, 2, &mut out), 0, "the revolution is there");
     out.iter().sum()
 }
 
@@ -170,28 +184,30 @@ fn writing(rounds: usize) {
     ratio("make the words of 50,000 times", rounds, 50, library, plain);
 }
 
-/// One rewrite on an image with all 168 tracks: where the flux of most others lies behind it, and where it lies before.
+/// One rewrite on an image with all tracks: where the flux of most others lies behind it, and where it lies before.
 fn rewriting(rounds: usize) {
     for (name, words, times, style) in [
         ("read-only, 5 revolutions", 1000, 1000, Style { last_track: 167, ..CAPTURE }),
         ("read-only, 255 revolutions", 100, 50, FULLEST),
         ("read/write", 1000, 1000, Style { last_track: 167, ..READ_WRITE }),
+        ("read-only, 5 revolutions", 1000, 1000, ALL_TRACKS_1_4),
     ] {
         let mut mine = image(&style, words);
         let mut other = mine.clone();
         let new = flux_bytes(&flux_words(&mut Random::new(3), words));
-        for track in [16, 167] {
-            let library = || rewrite(black_box(&mut mine), track, &new);
-            let plain = || code(plain::rewrite(black_box(&mut other), track, 0, 8_000_001, &new));
-            ratio(&format!("rewrite {words} words of track {track} among 168 ({name})"), rounds, times, library, plain);
+        let (edition, last, by) = (style.edition, u32::from(style.last_track), by(style.edition));
+        for track in [16, last] {
+            let library = || rewrite(black_box(&mut mine), edition, track, &new);
+            let plain = || code(plain::rewrite(black_box(&mut other), black_box(edition), track, 0, 8_000_001, &new));
+            ratio(&format!("rewrite {words} words of track {track} among {} ({name}{by})", last + 1), rounds, times, library, plain);
             assert!(mine == other, "the two images do not agree");
         }
     }
 }
 
 /// A rewrite that is accepted.
-fn rewrite(image: &mut [u8], track: u32, new: &[u8]) -> u64 {
-    assert_eq!(raw::rewrite(image, track, 0, 8_000_001, new), 0, "the rewrite is accepted");
+fn rewrite(image: &mut [u8], edition: Edition, track: u32, new: &[u8]) -> u64 {
+    assert_eq!(raw::rewrite(image, edition.number(), track, 0, 8_000_001, new), 0, "the rewrite is accepted");
     0
 }
 
@@ -205,11 +221,12 @@ fn growth(rounds: usize) {
         let mut fewer = image(&Style { last_track: tracks - 1, revolutions, ..FULLEST }, words);
         let more_times = times * 168 * 255 / (usize::from(tracks) * usize::from(revolutions));
         let name = format!("{tracks} tracks of {revolutions} revolutions");
-        let (first, second) = ((more_times, || ask(black_box(&fewer))), (times, || ask(black_box(&most))));
+        let edition = FULLEST.edition;
+        let (first, second) = ((more_times, || ask(black_box(&fewer), edition)), (times, || ask(black_box(&most), edition)));
         beside(&format!("open {name} and ask for one"), rounds, first, second);
         let last = u32::from(tracks - 1);
-        let (first, second) =
-            ((more_times, || rewrite(black_box(&mut fewer), last, &new)), (times, || rewrite(black_box(&mut most), 167, &new)));
+        let first = (more_times, || rewrite(black_box(&mut fewer), edition, last, &new));
+        let second = (times, || rewrite(black_box(&mut most), edition, 167, &new));
         beside(&format!("rewrite {words} words of the last track of {name}"), rounds, first, second);
     }
 }

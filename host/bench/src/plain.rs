@@ -1,5 +1,7 @@
 //! The same work in plain Rust, as one would write it: the yardstick. It checks all that the library checks.
 
+use scp::Edition;
+
 /// Number and position of a refusal.
 pub type Refused = (u32, u64);
 
@@ -14,29 +16,45 @@ pub struct Revolution {
 /// Where a stretch of the image starts and ends.
 type Extent = (u64, u64);
 
-const TABLE_END: u64 = 688;
+/// How many tracks the table of an edition has.
+fn tracks(edition: Edition) -> usize {
+    match edition {
+        Edition::V1_4 => 166,
+        Edition::V1_6 => 168,
+    }
+}
+
+/// Where the table of an edition ends.
+fn table_end(edition: Edition) -> usize {
+    16 + 4 * tracks(edition)
+}
+
+/// Whether the image has a footer.
+fn has_footer(image: &[u8], edition: Edition) -> bool {
+    edition == Edition::V1_6 && image[8] & 0x20 != 0
+}
 
 fn le32(image: &[u8], place: usize) -> u32 {
     u32::from_le_bytes(image[place..place + 4].try_into().expect("four bytes"))
 }
 
-/// Refusals 1 to 11; gives the table.
-pub fn open(image: &[u8]) -> Result<[u32; 168], Refused> {
-    check_header(image)?;
-    let end = body_end(image);
+/// Refusals 1 to 11; gives the table, with 0 for a track that the edition does not have.
+pub fn open(image: &[u8], edition: Edition) -> Result<[u32; 168], Refused> {
+    check_header(image, edition)?;
+    let body = (table_end(edition) as u64, body_end(image, edition));
     let revolutions = usize::from(image[5]);
     let mut table = [0; 168];
-    for (track, entry) in table.iter_mut().enumerate() {
+    for (track, entry) in table.iter_mut().enumerate().take(tracks(edition)) {
         *entry = le32(image, 16 + 4 * track);
         if *entry != 0 {
-            check_track(image, track, u64::from(*entry), revolutions, end).map_err(|number| (number, track as u64))?;
+            check_track(image, track, u64::from(*entry), revolutions, body).map_err(|number| (number, track as u64))?;
         }
     }
     Ok(table)
 }
 
-fn check_header(image: &[u8]) -> Result<(), Refused> {
-    if !(688..=268_435_456).contains(&image.len()) {
+fn check_header(image: &[u8], edition: Edition) -> Result<(), Refused> {
+    if !(table_end(edition)..=268_435_456).contains(&image.len()) {
         return Err((1, 0));
     }
     if !image.starts_with(b"SCP") {
@@ -48,13 +66,13 @@ fn check_header(image: &[u8]) -> Result<(), Refused> {
     if image[5] == 0 || image[8] & 0x10 != 0 && image[5] > 1 {
         return Err((4, 0));
     }
-    if image[6] > image[7] || image[7] > 167 {
+    if image[6] > image[7] || usize::from(image[7]) >= tracks(edition) {
         return Err((5, 0));
     }
     if image[10] > 2 {
         return Err((6, 0));
     }
-    if image[8] & 0x20 != 0 {
+    if has_footer(image, edition) {
         check_footer(image)?;
     }
     Ok(())
@@ -81,11 +99,11 @@ fn good_string(body: &[u8], offset: usize) -> bool {
 }
 
 /// E: where tracks, flux and strings end.
-fn body_end(image: &[u8]) -> u64 {
-    image.len() as u64 - if image[8] & 0x20 != 0 { 48 } else { 0 }
+fn body_end(image: &[u8], edition: Edition) -> u64 {
+    image.len() as u64 - if has_footer(image, edition) { 48 } else { 0 }
 }
 
-fn check_track(image: &[u8], track: usize, entry: u64, revolutions: usize, end: u64) -> Result<(), u32> {
+fn check_track(image: &[u8], track: usize, entry: u64, revolutions: usize, (start, end): Extent) -> Result<(), u32> {
     let held = match image[10] {
         0 => true,
         heads => track % 2 == usize::from(heads == 2),
@@ -93,7 +111,7 @@ fn check_track(image: &[u8], track: usize, entry: u64, revolutions: usize, end: 
     if track < image[6].into() || track > image[7].into() || !held {
         return Err(9);
     }
-    if entry < TABLE_END || entry + 4 + 12 * revolutions as u64 > end {
+    if entry < start || entry + 4 + 12 * revolutions as u64 > end {
         return Err(10);
     }
     let header = &image[entry as usize..][..4 + 12 * revolutions];
@@ -118,8 +136,8 @@ fn of_record(entry: u64, record: &[u8]) -> Revolution {
 
 /// Refusals 1 to 12.
 #[inline(never)]
-pub fn validate(image: &[u8]) -> Result<(), Refused> {
-    open(image)?;
+pub fn validate(image: &[u8], edition: Edition) -> Result<(), Refused> {
+    open(image, edition)?;
     let wanted = if image[8] & 0x10 != 0 { 0 } else { byte_sum(&image[16..]) };
     if le32(image, 12) != wanted {
         return Err((12, 0));
@@ -133,14 +151,14 @@ fn byte_sum(bytes: &[u8]) -> u32 {
 
 /// A revolution: refusals 1 to 11, 13, 14.
 #[inline(never)]
-pub fn revolution(image: &[u8], track: u32, revolution: u32) -> Result<Revolution, Refused> {
-    find(image, &open(image)?, track, revolution)
+pub fn revolution(image: &[u8], edition: Edition, track: u32, revolution: u32) -> Result<Revolution, Refused> {
+    find(image, &open(image, edition)?, track, revolution)
 }
 
 /// The byte sum of a revolution's flux.
 #[inline(never)]
-pub fn flux_sum(image: &[u8], track: u32, k: u32) -> Result<u32, Refused> {
-    let found = revolution(image, track, k)?;
+pub fn flux_sum(image: &[u8], edition: Edition, track: u32, k: u32) -> Result<u32, Refused> {
+    let found = revolution(image, edition, track, k)?;
     Ok(byte_sum(&image[found.place as usize..][..2 * found.words as usize]))
 }
 
@@ -218,15 +236,15 @@ pub fn words(times: &[u64], words: &mut [u8]) -> Result<usize, Refused> {
 
 /// Rewrites a revolution: refusals 1 to 11, 13, 14, 17, 18.
 #[inline(never)]
-pub fn rewrite(image: &mut [u8], track: u32, k: u32, duration: u32, new: &[u8]) -> Result<(), Refused> {
-    let table = open(image)?;
+pub fn rewrite(image: &mut [u8], edition: Edition, track: u32, k: u32, duration: u32, new: &[u8]) -> Result<(), Refused> {
+    let table = open(image, edition)?;
     let found = find(image, &table, track, k)?;
     check_flux(new)?;
     if new.len() as u64 / 2 > found.words.into() {
         return Err((17, 0));
     }
     let entry = u64::from(table[track as usize]);
-    if shared(image, &table, track as usize, k as usize, found) {
+    if shared(image, edition, &table, (track as usize, k as usize), found) {
         return Err((18, 0));
     }
     let fields = (entry + 4 + 12 * u64::from(k)) as usize;
@@ -254,7 +272,7 @@ fn meets(a: Extent, b: Extent) -> bool {
 }
 
 /// Whether a byte that a rewrite of the revolution stands on is claimed by others, or twice by itself.
-fn shared(image: &[u8], table: &[u32; 168], track: usize, k: usize, found: Revolution) -> bool {
+fn shared(image: &[u8], edition: Edition, table: &[u32; 168], (track, k): (usize, usize), found: Revolution) -> bool {
     let revolutions = usize::from(image[5]);
     let at = u64::from(table[track]) + 4 + 12 * k as u64;
     let numbers = (at, at + 8);
@@ -282,9 +300,12 @@ fn shared(image: &[u8], table: &[u32; 168], track: usize, k: usize, found: Revol
                 hit((offset as u64, offset as u64 + 3 + size))
             }
         };
-        image[8] & 0x20 != 0 && (hit((footer as u64, footer as u64 + 48)) || (0..6).any(of_string))
+        hit((footer as u64, footer as u64 + 48)) || (0..6).any(of_string)
     };
-    meets(numbers, flux) || hit((0, TABLE_END)) || table.iter().enumerate().filter(|(_, &entry)| entry != 0).any(of_track) || strings()
+    meets(numbers, flux)
+        || hit((0, table_end(edition) as u64))
+        || table.iter().enumerate().filter(|(_, &entry)| entry != 0).any(of_track)
+        || has_footer(image, edition) && strings()
 }
 
 /// A plain read of the memory: all its 64-bit words, added.

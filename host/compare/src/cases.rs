@@ -1,11 +1,13 @@
 //! Cases by number: an input by chance, and the questions that are put to both.
 
 use crate::ask::{agree_on, Case};
+use crate::edition::{is_1_4, some_number, some_row_number, V1_4, V1_6};
 use crate::generate;
 use crate::image::{duration_at, entry_at, flux_bytes, number_at};
-use crate::question::Question;
+use crate::question::{number, Asked, Question};
 use crate::random::Random;
-use crate::sequence::{ANSWER, CALL};
+use crate::sequence::{ANSWER, CALL, EDITION};
+use scp::Edition;
 
 /// The case of a number, under a seed: an image or flux, and questions about it.
 pub fn case(seed: u64, number: u64) -> Case<Question> {
@@ -20,83 +22,114 @@ pub fn case(seed: u64, number: u64) -> Case<Question> {
 
 // ---- images
 
-/// An image, and every question about some of its tracks, present, absent and none.
+/// An image, and every question about some of its tracks, present, absent and none, by both editions.
 fn image_case(random: &mut Random) -> Case<Question> {
     let bytes = generate::image(random);
-    let mut questions =
-        vec![Question::Validate, Question::Header { places: places(random, 9) }, Question::Footer { places: places(random, 13) }];
+    let mut asked = vec![Asked::Validate, Asked::Header { places: places(random, 9) }, Asked::Footer { places: places(random, 13) }];
     for _ in 0..3 {
         let track = some_track(&bytes, random);
-        questions.push(Question::Track { track, places: places(random, 4) });
-        questions.push(Question::TrackSpeed { track, places: places(random, 3) });
+        asked.push(Asked::Track { track, places: places(random, 4) });
+        asked.push(Asked::TrackSpeed { track, places: places(random, 3) });
         for _ in 0..2 {
             let revolution = some_revolution(&bytes, random);
             let size = 2 * count(&bytes, track, revolution).min(1 << 20) as usize;
-            questions.push(Question::Revolution { track, revolution, places: places(random, 3) });
-            questions.push(Question::Flux { track, revolution, places: places(random, size) });
-            questions.push(Question::Speed { track, revolution, places: places(random, 2) });
-            questions.push(rewrite(&bytes, track, revolution, random));
+            asked.push(Asked::Revolution { track, revolution, places: places(random, 3) });
+            asked.push(Asked::Flux { track, revolution, places: places(random, size) });
+            asked.push(Asked::Speed { track, revolution, places: places(random, 2) });
+            asked.push(rewrite(&bytes, track, revolution, random));
         }
     }
+    let mut by_both = |asked: Asked| Edition::ALL.map(|edition| asked.clone().by(some_number(edition, random)));
+    let questions = asked.into_iter().flat_map(&mut by_both).collect();
     Case { bytes, questions }
 }
 
 /// The questions about an image as a whole, with as many places as needed.
-fn of_image() -> [Question; 3] {
-    [Question::Validate, Question::Header { places: 9 }, Question::Footer { places: 13 }]
+fn of_image() -> [Asked; 3] {
+    [Asked::Validate, Asked::Header { places: 9 }, Asked::Footer { places: 13 }]
 }
 
 /// The questions about a track, with as many places as needed.
-fn of_track(track: u32) -> [Question; 2] {
-    [Question::Track { track, places: 4 }, Question::TrackSpeed { track, places: 3 }]
+fn of_track(track: u32) -> [Asked; 2] {
+    [Asked::Track { track, places: 4 }, Asked::TrackSpeed { track, places: 3 }]
 }
 
 /// The questions about a revolution, with as many places as needed.
-fn of_revolution(image: &[u8], track: u32, revolution: u32) -> [Question; 3] {
+fn of_revolution(image: &[u8], track: u32, revolution: u32) -> [Asked; 3] {
     let size = 2 * count(image, track, revolution).min(1 << 20) as usize;
     [
-        Question::Revolution { track, revolution, places: 3 },
-        Question::Flux { track, revolution, places: size },
-        Question::Speed { track, revolution, places: 2 },
+        Asked::Revolution { track, revolution, places: 3 },
+        Asked::Flux { track, revolution, places: size },
+        Asked::Speed { track, revolution, places: 2 },
     ]
 }
 
 /// Every question about an image, all 168 tracks and one more, all revolutions of each present track and some that are not there, and of an
 /// absent track one that would be there and one that would not. No rewrite.
-fn every_question(image: &[u8]) -> Vec<Question> {
-    let mut questions = of_image().to_vec();
+fn every_question(image: &[u8]) -> Vec<Asked> {
+    let mut asked = of_image().to_vec();
     let beyond = revolutions(image);
     for track in 0..169 {
-        questions.extend(of_track(track));
-        let present = track < 168 && number_at(image, entry_at(track as usize)) != 0;
-        let asked = if present { 0..beyond } else { 0..1 };
+        asked.extend(of_track(track));
+        let present = has_entry(image, track);
+        let there = if present { 0..beyond } else { 0..1 };
         let absent = if present { &[beyond, beyond + 1, 255, 256, u32::MAX][..] } else { &[beyond + 1] };
-        questions.extend(asked.chain(absent.iter().copied()).flat_map(|revolution| of_revolution(image, track, revolution)));
+        asked.extend(there.chain(absent.iter().copied()).flat_map(|revolution| of_revolution(image, track, revolution)));
     }
-    questions
+    asked
 }
 
 /// The questions about an image, some of its tracks, and some revolutions of each.
-pub fn some_questions(image: &[u8], tracks: &[u32], revolutions: &[u32]) -> Vec<Question> {
-    let mut questions = of_image().to_vec();
+pub fn some_questions(image: &[u8], tracks: &[u32], revolutions: &[u32]) -> Vec<Asked> {
+    let mut asked = of_image().to_vec();
     for &track in tracks {
-        questions.extend(of_track(track));
-        questions.extend(revolutions.iter().flat_map(|&revolution| of_revolution(image, track, revolution)));
+        asked.extend(of_track(track));
+        asked.extend(revolutions.iter().flat_map(|&revolution| of_revolution(image, track, revolution)));
     }
-    questions
+    asked
 }
 
-/// Puts every question on the image to both, and one rewrite of each present revolution; panics where they differ.
+/// Asks both about the first, the middle and the last revolution of the first, a middle and the last track, rewrites one on each, and asks for
+/// one that is not there; panics where they differ, or where any but the last is refused.
+pub fn answer_some(image: &[u8], edition: Edition, last_track: u32) {
+    let (tracks, revolutions) = ([0, last_track / 2, last_track], first_middle_last(image));
+    let mut asked = some_questions(image, &tracks, &revolutions);
+    for (track, revolution) in tracks.into_iter().zip(revolutions) {
+        let flux = scp::flux(image, edition, track, revolution).expect("it is there");
+        asked.push(Asked::Rewrite { track, revolution, duration: 8_000_000, words: flux.iter().rev().copied().collect() });
+    }
+    for question in asked.into_iter().map(|asked| asked.by(edition.number())) {
+        assert_eq!(number(image, &question), Ok(0), "{question:?}");
+    }
+    let absent = Asked::Revolution { track: last_track, revolution: self::revolutions(image), places: 3 };
+    assert_eq!(number(image, &absent.by(edition.number())), Ok(14));
+}
+
+/// The first, the middle and the last revolution of an image.
+pub fn first_middle_last(image: &[u8]) -> [u32; 3] {
+    let count = revolutions(image);
+    [0, count / 2, count.saturating_sub(1)]
+}
+
+/// Puts every question on the image to both, and one rewrite of each present revolution, by both editions; panics where they differ.
 pub fn agree(name: &str, image: &[u8]) {
-    let mut questions = every_question(image);
-    for track in 0..168 {
+    for edition in Edition::ALL {
+        let asked = every_question(image).into_iter().chain(every_rewrite(image, edition));
+        agree_on(&format!("{name}, by {edition}"), image, asked.map(|asked| asked.by(edition.number())).collect());
+    }
+}
+
+/// One rewrite of each revolution that is present by the edition.
+fn every_rewrite(image: &[u8], edition: Edition) -> Vec<Asked> {
+    let mut asked = Vec::new();
+    for track in 0..edition.tracks() {
         for revolution in 0..revolutions(image) {
-            let Ok(found) = scp::revolution(image, track, revolution) else { break };
+            let Ok(found) = scp::revolution(image, edition, track, revolution) else { break };
             let words = vec![1; 2 * found.words.min(3) as usize];
-            questions.push(Question::Rewrite { track, revolution, duration: 1, words });
+            asked.push(Asked::Rewrite { track, revolution, duration: 1, words });
         }
     }
-    agree_on(name, image, questions);
+    asked
 }
 
 /// So many places as needed, or some more or fewer.
@@ -109,15 +142,21 @@ pub fn places(random: &mut Random, needed: usize) -> usize {
     }
 }
 
-/// A track: mostly one with an entry in the table, else any.
+/// A track: mostly one that the header spans and that has an entry in the table, else any.
 fn some_track(image: &[u8], random: &mut Random) -> u32 {
-    let present: Vec<u32> = (0..168).filter(|&track| number_at(image, entry_at(track as usize)) != 0).collect();
+    let [start, end] = [6, 7].map(|place| image.get(place).copied().unwrap_or(0).into());
+    let present: Vec<u32> = (start..=end).filter(|&track| has_entry(image, track)).collect();
     match random.below(8) {
-        0 => random.pick(&[0, 166, 167, 168, 169, 255, 256, u32::MAX]),
+        0 => random.pick(&[0, 164, 165, 166, 167, 168, 169, 255, 256, u32::MAX]),
         1 => random.edgy32(),
         _ if present.is_empty() => random.below(168) as u32,
         _ => random.pick(&present),
     }
+}
+
+/// Whether the table, of 168 entries, has one of the track that is not 0.
+fn has_entry(image: &[u8], track: u32) -> bool {
+    track < 168 && number_at(image, entry_at(track as usize)) != 0
 }
 
 /// A revolution: mostly one that the header counts, else any.
@@ -146,13 +185,17 @@ fn count(image: &[u8], track: u32, revolution: u32) -> u32 {
 }
 
 /// A rewrite: as many words as there are or fewer, or a few too many, or a byte too many.
-fn rewrite(image: &[u8], track: u32, revolution: u32, random: &mut Random) -> Question {
+fn rewrite(image: &[u8], track: u32, revolution: u32, random: &mut Random) -> Asked {
     let words = new_words(image, track, revolution, random);
-    Question::Rewrite { track, revolution, duration: generate::duration(random), words }
+    Asked::Rewrite { track, revolution, duration: generate::duration(random), words }
 }
 
+/// Words for a rewrite: any, or all of them a string.
 fn new_words(image: &[u8], track: u32, revolution: u32, random: &mut Random) -> Vec<u8> {
     let most = count(image, track, revolution).min(64) as usize;
+    if most > 1 && random.once_in(8) {
+        return generate::string_bytes(2 * most, random);
+    }
     let words = match random.below(6) {
         0 => most + 1,
         1 => most,
@@ -168,13 +211,27 @@ fn new_words(image: &[u8], track: u32, revolution: u32, random: &mut Random) -> 
 
 // ---- sequences of calls
 
-/// An image and a sequence of calls on it, most of them rewrites and questions of the same few revolutions.
+/// An image and a sequence of calls on it, as it is and with each call by the other edition.
 fn sequence_case(random: &mut Random) -> Case<Question> {
     let bytes = generate::image(random);
+    let (calls, words) = sequence(&bytes, random);
+    let needed = ANSWER * (calls.len() / CALL);
+    let places = match random.below(8) {
+        0 => needed.saturating_sub(1),
+        1 => needed + random.below(40),
+        _ => needed,
+    };
+    let questions = [other_editions(&calls), calls].map(|calls| Question::Sequence { calls, words: words.clone(), places });
+    Case { bytes, questions: questions.into() }
+}
+
+/// Calls, most of them rewrites and questions of the same few revolutions, by one edition or by both, and their words.
+pub fn sequence(bytes: &[u8], random: &mut Random) -> (Vec<u64>, Vec<u8>) {
     let (mut calls, mut words) = (Vec::new(), Vec::new());
-    let tracks = [some_track(&bytes, random), some_track(&bytes, random)];
+    let tracks = [some_track(bytes, random), some_track(bytes, random)];
+    let editions = random.pick(&[&Edition::ALL[..1], &Edition::ALL[1..], &Edition::ALL, &Edition::ALL]);
     for _ in 0..random.below(11) {
-        let (track, revolution) = (random.pick(&tracks), some_revolution(&bytes, random));
+        let (track, revolution) = (random.pick(&tracks), some_revolution(bytes, random));
         let start = words.len() as u64;
         let kind = match random.below(4) {
             0 | 1 => 8,
@@ -182,23 +239,28 @@ fn sequence_case(random: &mut Random) -> Case<Question> {
             _ => random.pick(&[0, 4, 5, 9, u64::MAX]),
         };
         if kind == 8 {
-            words.extend(new_words(&bytes, track, revolution, random));
+            words.extend(new_words(bytes, track, revolution, random));
         }
         let duration = u64::from(generate::duration(random)) + (random.below(2) as u64 * (1 << 32));
-        calls.extend([kind, track.into(), revolution.into(), duration, start, words.len() as u64 - start]);
+        let edition = some_row_number(random.pick(editions), random);
+        calls.extend([kind, track.into(), revolution.into(), duration, start, words.len() as u64 - start, edition]);
         if random.once_in(12) {
-            let field = calls.len() - 1 - random.below(5);
+            let field = calls.len() - 1 - random.below(CALL - 1);
             calls[field] = random.pick(&[0, 1, 7, u64::MAX, 1 << 32, (1 << 32) + 1, u64::from(u32::MAX)]);
         }
     }
-    let rows = calls.len() / CALL;
+    // now and then less than a call behind the last
     calls.extend(vec![8; if random.once_in(3) { random.below(CALL) } else { 0 }]);
-    let places = match random.below(8) {
-        0 => (ANSWER * rows).saturating_sub(1),
-        1 => ANSWER * rows + random.below(40),
-        _ => ANSWER * rows,
-    };
-    Case { bytes, questions: vec![Question::Sequence { calls, words, places }] }
+    (calls, words)
+}
+
+/// The calls, each by the other edition.
+fn other_editions(calls: &[u64]) -> Vec<u64> {
+    let mut others = calls.to_vec();
+    for call in others.chunks_exact_mut(CALL) {
+        call[EDITION] = if is_1_4(call[EDITION]) { V1_6 } else { V1_4 }.into();
+    }
+    others
 }
 
 // ---- flux and times

@@ -1,19 +1,20 @@
-//! Images by chance: valid ones of every shape, and faults put into them.
+//! Images by chance, laid out for either edition: valid ones of every shape, and faults put into them.
 
 use crate::image::{
     duration_at, entry_at, footer_bytes, number_at, set, store_checksum, FooterPart, Layout, Parts, Placed, RevolutionPart, TrackPart,
-    FOOTER_SIZE, TABLE_END,
+    FOOTER_SIZE,
 };
 use crate::random::Random;
+use scp::Edition;
 
 /// The most revolutions of all tracks together: four tracks of 255, or all tracks of six.
 const MOST_RECORDS: usize = 1020;
 
-/// An image by chance: valid, or with a fault or several.
+/// An image by chance: valid by the edition that it is laid out for, or with a fault or several.
 pub fn image(random: &mut Random) -> Vec<u8> {
     let parts = parts(random);
     let mut placed = parts.build(random);
-    if random.once_in(3) {
+    if random.once_in(2) {
         overlap(&parts, &mut placed, random);
         store_checksum(&mut placed.image);
     }
@@ -29,20 +30,22 @@ pub fn image(random: &mut Random) -> Vec<u8> {
 
 /// Parts of a valid image.
 pub fn parts(random: &mut Random) -> Parts {
+    let edition = random.pick(&Edition::ALL);
     let read_write = random.once_in(5);
     let revolutions = if read_write { 1 } else { revolutions(random) };
     let heads = random.pick(&[0, 0, 0, 1, 2]);
     let footer = random.once_in(2).then(|| footer(random));
+    let flagged = if edition.has_footer() { footer.is_some() } else { random.once_in(2) };
     let mut flags = random.byte() & 0xCF;
-    flags |= 0x10 * u8::from(read_write) + 0x20 * u8::from(footer.is_some());
-    let (start, end) = span(random);
+    flags |= 0x10 * u8::from(read_write) + 0x20 * u8::from(flagged);
+    let (start, end) = span(edition, random);
     let numbers = numbers(random, start, end, heads, MOST_RECORDS / usize::from(revolutions));
     let tracks = numbers.into_iter().map(|number| track(random, number, revolutions)).collect();
     let trailer = if random.once_in(3) { b"01/02/2026 12:34:56 PM".to_vec() } else { Vec::new() };
     let layout = random.pick(&[Layout::InOrder, Layout::Gaps, Layout::Shuffled]);
     let width = random.pick(&[0, 16]);
     let (version, disk) = (random.byte(), random.byte());
-    Parts { version, disk, revolutions, start, end, flags, width, heads, tracks, footer, trailer, layout }
+    Parts { edition, version, disk, revolutions, start, end, flags, width, heads, tracks, footer, trailer, layout }
 }
 
 /// How many revolutions a track has: mostly a few, now and then many.
@@ -54,10 +57,11 @@ fn revolutions(random: &mut Random) -> u8 {
     }
 }
 
-/// Start and end track: few or all.
-fn span(random: &mut Random) -> (u8, u8) {
-    let start = random.pick(&[0, 0, 0, 1, 80, 166, 167]);
-    let end = (start + random.pick(&[0, 1, 3, 7, 20, 167])).min(167);
+/// Start and end track: few or all, of this edition or of either.
+fn span(edition: Edition, random: &mut Random) -> (u8, u8) {
+    let last = random.pick(&[edition, Edition::V1_4]).tracks() as u8 - 1;
+    let start = random.pick(&[0, 0, 0, 1, 80, last - 1, last]);
+    let end = (start + random.pick(&[0, 1, 3, 7, 20, last])).min(last);
     (start, end)
 }
 
@@ -120,12 +124,15 @@ fn footer(random: &mut Random) -> FooterPart {
 
 // ---- overlaps that the rules allow
 
-/// Lets a part overlap another where that leaves the image openable, or nearly so.
+/// Lets a part overlap another where that leaves the image openable by an edition, or nearly so.
 fn overlap(parts: &Parts, placed: &mut Placed, random: &mut Random) {
     for _ in 0..random.between(1, 3) {
-        match random.below(4) {
+        match random.below(10) {
             0 => share_string(parts, placed, random),
             1 => header_in_header(parts, placed, random),
+            2 | 3 => string_in_flux(parts, placed, random),
+            4 => move_header(parts, placed, random),
+            5 => feign_footer(&mut placed.image, random),
             _ => move_flux(parts, placed, random),
         }
     }
@@ -141,9 +148,10 @@ fn some_revolution(parts: &Parts, random: &mut Random) -> Option<(usize, usize)>
     Some((track, if random.once_in(4) { revolutions - 1 } else { random.below(revolutions) }))
 }
 
-/// The end of the image, or the start of its footer.
-fn data_end(parts: &Parts, placed: &Placed) -> usize {
-    placed.image.len().saturating_sub(if parts.footer.is_some() { FOOTER_SIZE } else { 0 })
+/// Where the data end: with the image or, where a footer is flagged, by the one edition with the image and by the other before the footer.
+fn data_end(image: &[u8], random: &mut Random) -> usize {
+    let flagged = image.get(8).is_some_and(|flags| flags & 0x20 != 0);
+    image.len().saturating_sub(if flagged { random.pick(&[0, FOOTER_SIZE]) } else { 0 })
 }
 
 /// Puts the flux of a revolution elsewhere: onto that of another, onto a header or a string, to the end, or anywhere above its header.
@@ -152,7 +160,7 @@ fn move_flux(parts: &Parts, placed: &mut Placed, random: &mut Random) {
     let Some((other, other_revolution)) = some_revolution(parts, random) else { return };
     let header = placed.headers[track];
     let size = 2 * parts.tracks[track].revolutions[revolution].words.len();
-    let end = data_end(parts, placed);
+    let end = data_end(&placed.image, random);
     let string = random.pick(&placed.strings) as usize;
     let place = match random.below(7) {
         0 => placed.flux[other][other_revolution],
@@ -161,11 +169,82 @@ fn move_flux(parts: &Parts, placed: &mut Placed, random: &mut Random) {
         3 => (placed.flux[other][other_revolution] + 2).saturating_sub(2 * random.below(3)),
         4 => duration_at(header, revolution) + random.below(13),
         5 => (string + random.below(14)).saturating_sub(size),
-        _ => random.between(TABLE_END, placed.image.len()),
+        _ => random.between(parts.edition.table_end(), placed.image.len()),
     };
     if header <= place {
         placed.flux[track][revolution] = place;
         set(&mut placed.image, duration_at(header, revolution) + 8, &((place - header) as u32).to_le_bytes());
+    }
+}
+
+/// Puts a track data header elsewhere: where the table of an edition ends or a little before, to the end of the data or a byte past it, or
+/// among the last bytes.
+fn move_header(parts: &Parts, placed: &mut Placed, random: &mut Random) {
+    let Some((track, _)) = some_revolution(parts, random) else { return };
+    let size = duration_at(0, parts.revolutions.into());
+    let last = data_end(&placed.image, random).saturating_sub(size);
+    let table_end = random.pick(&Edition::ALL).table_end();
+    let place = match random.below(5) {
+        0 => random.between(table_end - 12, table_end - 1),
+        1 => random.between(table_end - 1, table_end + 1),
+        2 => last,
+        3 => last + 1,
+        _ => placed.image.len().saturating_sub(size + random.below(FOOTER_SIZE)),
+    };
+    put_header(parts, placed, track, place, random);
+}
+
+/// Puts the data header of a track at a place, with the flux that it had or, where that lies lower, with a word or two of its own.
+fn put_header(parts: &Parts, placed: &mut Placed, track: usize, place: usize, random: &mut Random) {
+    let TrackPart { number, revolutions } = &parts.tracks[track];
+    set(&mut placed.image, entry_at((*number).into()), &(place as u32).to_le_bytes());
+    set(&mut placed.image, place, &[b'T', b'R', b'K', *number]);
+    placed.headers[track] = place;
+    let end = placed.image.len();
+    for (revolution, part) in revolutions.iter().enumerate() {
+        let (mut flux, mut count) = (placed.flux[track][revolution], part.words.len());
+        if flux < place {
+            count = random.below(3);
+            flux = random.between(place, end.saturating_sub(2 * count).max(place));
+        }
+        let record = [part.duration, count as u32, (flux - place) as u32].map(u32::to_le_bytes).concat();
+        set(&mut placed.image, duration_at(place, revolution), &record);
+        placed.flux[track][revolution] = flux;
+    }
+}
+
+/// Has a string of the footer lie in the flux of a revolution, mostly from its first byte to its last; now and then its closing zero is
+/// another byte.
+fn string_in_flux(parts: &Parts, placed: &mut Placed, random: &mut Random) {
+    let Some((track, revolution)) = some_revolution(parts, random) else { return };
+    let room = 2 * parts.tracks[track].revolutions[revolution].words.len();
+    if parts.footer.is_none() || room < 4 {
+        return;
+    }
+    let size = if random.once_in(3) { random.between(3, room) } else { room };
+    let place = placed.flux[track][revolution] + random.between(0, room - size);
+    let mut bytes = string_bytes(size, random);
+    if random.once_in(3) {
+        bytes[size - 1] = random.byte();
+    }
+    set(&mut placed.image, place, &bytes);
+    let slot = placed.image.len() - FOOTER_SIZE + 4 * random.below(6);
+    set(&mut placed.image, slot, &(place as u32).to_le_bytes());
+}
+
+/// A string that takes so many bytes, at least 3.
+pub fn string_bytes(size: usize, random: &mut Random) -> Vec<u8> {
+    let text: Vec<u8> = (3..size).map(|_| random.byte().max(1)).collect();
+    [&(text.len() as u16).to_le_bytes(), &text[..], &[0]].concat()
+}
+
+/// Makes a footer of the last bytes, whatever they are: its sign and its version, and now and then that it has no strings.
+fn feign_footer(image: &mut [u8], random: &mut Random) {
+    let Some(footer) = image.len().checked_sub(FOOTER_SIZE) else { return };
+    image[8] |= 0x20;
+    set(image, footer + 0x2B, b"\x16FPCS");
+    if random.once_in(2) {
+        set(image, footer, &[0; 24]);
     }
 }
 
@@ -178,7 +257,7 @@ fn share_string(parts: &Parts, placed: &mut Placed, random: &mut Random) {
     let (from, to) = (footer + 4 * random.below(6), footer + 4 * random.below(6));
     let mut offset = number_at(&placed.image, from);
     if random.once_in(4) {
-        offset = random.between(TABLE_END, footer) as u32;
+        offset = random.between(parts.edition.table_end(), footer) as u32;
     }
     set(&mut placed.image, to, &offset.to_le_bytes());
 }
@@ -197,7 +276,7 @@ fn header_in_header(parts: &Parts, placed: &mut Placed, random: &mut Random) {
 
 /// Puts one fault of some kind into the image; some leave it valid.
 fn spoil(parts: &Parts, placed: &mut Placed, random: &mut Random) {
-    match random.below(14) {
+    match random.below(15) {
         0 => resize(&mut placed.image, random),
         1 => spoil_byte(&mut placed.image, 0, 3, random),
         2 => spoil_field(&mut placed.image, 9, &[1, 15, 16, 17, 32, 255], random),
@@ -205,12 +284,13 @@ fn spoil(parts: &Parts, placed: &mut Placed, random: &mut Random) {
         4 => spoil_span(&mut placed.image, random),
         5 => spoil_field(&mut placed.image, 10, &[0, 1, 2, 3, 255], random),
         6 => spoil_footer(&mut placed.image, random),
-        7 => spoil_string(&mut placed.image, random),
-        8 => spoil_entry(&mut placed.image, random),
+        7 => spoil_string(parts.edition, &mut placed.image, random),
+        8 => spoil_entry(parts.edition, &mut placed.image, random),
         9 => spoil_track(parts, placed, random),
         10 => spoil_revolution(parts, placed, random),
         11 => spoil_field(&mut placed.image, 12 + random.below(4), &[0, 1, 255], random),
         12 => flip_flag(&mut placed.image, random),
+        13 => bare(&mut placed.image, random),
         _ => flip_bytes(&mut placed.image, random),
     }
 }
@@ -218,10 +298,19 @@ fn spoil(parts: &Parts, placed: &mut Placed, random: &mut Random) {
 /// Another length: at an edge, a byte more or less, or any.
 fn resize(image: &mut Vec<u8>, random: &mut Random) {
     let now = image.len();
-    let edges =
-        [0, 1, 16, 687, 688, 689, 735, 736, 737, now.saturating_sub(1), now.saturating_sub(FOOTER_SIZE), now + 1, now + FOOTER_SIZE];
-    let size = if random.once_in(3) { random.below(now + 2) } else { random.pick(&edges) };
+    let edges = [0, 1, 16, 735, 736, 737, now.saturating_sub(1), now.saturating_sub(FOOTER_SIZE), now + 1, now + FOOTER_SIZE];
+    let size = match random.below(6) {
+        0 | 1 => random.below(now + 2),
+        2 | 3 => near_table_ends(random),
+        _ => random.pick(&edges),
+    };
     image.resize(size, 0);
+}
+
+/// A length from a byte below the end of the one edition's table to a byte above that of the other's.
+fn near_table_ends(random: &mut Random) -> usize {
+    let [low, high] = Edition::ALL.map(Edition::table_end);
+    random.between(low - 1, high + 1)
 }
 
 /// Changes one of n bytes from a place on.
@@ -239,36 +328,38 @@ pub fn spoil_field(image: &mut [u8], place: usize, values: &[u8], random: &mut R
 
 /// Other start and end tracks.
 fn spoil_span(image: &mut [u8], random: &mut Random) {
-    let edges = [0, 1, 2, 5, 6, 80, 166, 167, 168, 255];
+    let edges = [0, 1, 2, 5, 6, 80, 164, 165, 166, 167, 168, 255];
     let span = [random.pick(&edges), random.pick(&edges)];
     set(image, 6, &span);
 }
 
 /// A footer without its sign or too old, or one that is flagged and not there.
-fn spoil_footer(image: &mut Vec<u8>, random: &mut Random) {
+fn spoil_footer(image: &mut [u8], random: &mut Random) {
     let Some(footer) = image.len().checked_sub(FOOTER_SIZE) else { return };
-    match random.below(5) {
+    match random.below(4) {
         0 => spoil_byte(image, footer + 44, 4, random),
         1 => spoil_field(image, footer + 0x2B, &[0, 0x15, 0x16, 0x17], random),
         2 => set(image, 8, &[0x20]),
-        3 => bare_footer(image, random),
         _ => spoil_byte(image, footer, FOOTER_SIZE, random),
     }
 }
 
-/// A footer right behind the table, or a byte too close to it: no track is left.
-fn bare_footer(image: &mut Vec<u8>, random: &mut Random) {
-    image.truncate(TABLE_END);
-    image.resize(random.between(735, 737), 0);
-    image[16..].fill(0);
-    image[8] |= 0x20;
-    let footer = FooterPart { strings: Default::default(), created: 1, modified: -1, versions: [0, 0, 0, 0x16] };
-    let place = image.len() - FOOTER_SIZE;
-    set(image, place, &footer_bytes(&footer, &[0; 6]));
+/// Nothing behind the table of an edition, or a footer alone, and a byte more or fewer: no track is left.
+fn bare(image: &mut Vec<u8>, random: &mut Random) {
+    let footed = random.once_in(2);
+    image.truncate(16);
+    image.resize(near_table_ends(random) + FOOTER_SIZE * usize::from(footed), 0);
+    image[8] &= 0xDF;
+    if footed {
+        image[8] |= 0x20;
+        let footer = FooterPart { strings: Default::default(), created: 1, modified: -1, versions: [0, 0, 0, 0x16] };
+        let place = image.len() - FOOTER_SIZE;
+        set(image, place, &footer_bytes(&footer, &[0; 6]));
+    }
 }
 
 /// A string misplaced or malformed.
-fn spoil_string(image: &mut [u8], random: &mut Random) {
+fn spoil_string(edition: Edition, image: &mut [u8], random: &mut Random) {
     let Some(footer) = image.len().checked_sub(FOOTER_SIZE) else { return };
     let slot = footer + 4 * random.below(6);
     let offset = number_at(image, slot) as usize;
@@ -278,7 +369,8 @@ fn spoil_string(image: &mut [u8], random: &mut Random) {
         2 => set(image, offset + 2 + random.below(9), &[1]),
         _ => {
             let near = random.below(5) as u32;
-            let values = [near, 685 + near, (footer as u32).wrapping_sub(near), footer as u32 + near, u32::MAX - near];
+            let low = edition.table_end() as u32 - 3;
+            let values = [near, low + near, (footer as u32).wrapping_sub(near), footer as u32 + near, u32::MAX - near];
             let offset = random.pick(&values);
             set(image, slot, &offset.to_le_bytes());
         }
@@ -286,42 +378,33 @@ fn spoil_string(image: &mut [u8], random: &mut Random) {
 }
 
 /// An entry of the table: another value, another slot.
-fn spoil_entry(image: &mut [u8], random: &mut Random) {
-    let slot = entry_at(random.below(168));
-    let other = entry_at(random.below(168));
-    if image.len() < TABLE_END {
-        return;
-    }
+fn spoil_entry(edition: Edition, image: &mut [u8], random: &mut Random) {
+    let slot = entry_at(random.below(edition.tracks() as usize));
+    let other = entry_at(random.below(edition.tracks() as usize));
     let near = random.below(8) as u32;
     let mut value = number_at(image, other);
     if random.once_in(2) {
-        let end = image.len() as u32;
-        let values = [near, 684 + near, end - near, end + near, u32::MAX - near, 1 << 31];
+        let (low, end) = (edition.table_end() as u32 - 4, image.len() as u32);
+        let values = [near, low + near, end.saturating_sub(near), end + near, u32::MAX - near, 1 << 31];
         value = random.pick(&values);
     }
     set(image, slot, &value.to_le_bytes());
 }
 
-/// A track's entry moved a little or far, its sign or its number changed.
+/// A track's entry moved a little or far, its header with it or not, its sign or its number changed.
 fn spoil_track(parts: &Parts, placed: &mut Placed, random: &mut Random) {
     let Some((track, _)) = some_revolution(parts, random) else { return };
     let header = placed.headers[track];
     let slot = entry_at(parts.tracks[track].number.into());
-    let end = placed.image.len() as u32;
+    let (end, low) = (placed.image.len() as u32, parts.edition.table_end() as u32);
     let near = random.below(50) as u32;
-    let values = [header as u32 + 1, header as u32 - 1, end.saturating_sub(near), end + near, u32::MAX - near, 687, 688];
+    let values =
+        [header as u32 + 1, (header as u32).saturating_sub(1), end.saturating_sub(near), end + near, u32::MAX - near, low - 1, low];
     match random.below(4) {
-        0 => {
-            // a header that starts in the table's last bytes, the last one that ends with the data, or one a byte later
-            let last = data_end(parts, placed).saturating_sub(duration_at(0, parts.revolutions.into()));
-            let low = random.between(676, 687);
-            let place = random.pick(&[low, last, last + 1]);
-            set(&mut placed.image, place, &[b'T', b'R', b'K', parts.tracks[track].number]);
-            set(&mut placed.image, slot, &(place as u32).to_le_bytes());
-        }
-        3 => set(&mut placed.image, slot, &random.pick(&values).to_le_bytes()),
+        0 => move_header(parts, placed, random),
         1 => spoil_byte(&mut placed.image, header, 3, random),
-        _ => set(&mut placed.image, header + 3, &[random.byte()]),
+        2 => set(&mut placed.image, header + 3, &[random.byte()]),
+        _ => set(&mut placed.image, slot, &random.pick(&values).to_le_bytes()),
     }
 }
 
@@ -330,7 +413,7 @@ fn spoil_revolution(parts: &Parts, placed: &mut Placed, random: &mut Random) {
     let Some((track, revolution)) = some_revolution(parts, random) else { return };
     let (header, flux) = (placed.headers[track], placed.flux[track][revolution]);
     let field = duration_at(header, revolution);
-    let end = data_end(parts, placed);
+    let end = data_end(&placed.image, random);
     let room = end.saturating_sub(flux) as u32 / 2;
     let away = end.saturating_sub(header) as u32;
     let counts = [0, room, room + 1, 1 << 31, (1 << 31) + 1, u32::MAX, random.edgy32()];
@@ -356,7 +439,7 @@ fn flip_bytes(image: &mut [u8], random: &mut Random) {
     for _ in 0..random.between(1, 6) {
         let size = image.len();
         if size > 0 {
-            let part = random.pick(&[16, TABLE_END, size, size]).min(size);
+            let part = random.pick(&[16, Edition::V1_6.table_end(), size, size]).min(size);
             spoil_byte(image, 0, part, random);
         }
     }

@@ -1,9 +1,7 @@
 //! Images from parts: what the parts are, and how they are laid out.
 
 use crate::random::Random;
-
-/// The first byte after header and table.
-pub const TABLE_END: usize = 0x2B0;
+use scp::Edition;
 
 /// How long a footer is.
 pub const FOOTER_SIZE: usize = 48;
@@ -54,7 +52,7 @@ pub struct FooterPart {
 /// How the parts come in the file.
 #[derive(Clone, Copy, PartialEq)]
 pub enum Layout {
-    /// Header, flux, header, flux .. from 0x2B0 on, as drives' tools write it.
+    /// Header, flux, header, flux .. from the end of the table on, as drives' tools write it.
     InOrder,
     /// As in order, with bytes of no meaning between the parts.
     Gaps,
@@ -65,6 +63,8 @@ pub enum Layout {
 /// All parts of an image.
 #[derive(Clone)]
 pub struct Parts {
+    /// The edition whose table the image has.
+    pub edition: Edition,
     pub version: u8,
     pub disk: u8,
     pub revolutions: u8,
@@ -74,6 +74,7 @@ pub struct Parts {
     pub width: u8,
     pub heads: u8,
     pub tracks: Vec<TrackPart>,
+    /// The footer, whatever FLAGS bit 5 says.
     pub footer: Option<FooterPart>,
     /// Bytes after the tracks, as a timestamp.
     pub trailer: Vec<u8>,
@@ -123,6 +124,10 @@ impl Parts {
             flux: self.tracks.iter().map(|track| vec![0; track.revolutions.len()]).collect(),
             strings: [0; 6],
         };
+        if self.layout != Layout::InOrder && random.once_in(2) {
+            // room for the two entries that revision 1.4 does not have
+            placed.image.resize(Edition::V1_6.table_end(), 0);
+        }
         for piece in self.pieces(random) {
             if self.layout != Layout::InOrder && random.once_in(2) {
                 let gap = random.below(6);
@@ -145,9 +150,9 @@ impl Parts {
         placed
     }
 
-    /// The first 688 bytes, without checksum and table.
+    /// The header and an empty table, without the checksum.
     fn header(&self) -> Vec<u8> {
-        let mut image = vec![0; TABLE_END];
+        let mut image = vec![0; self.edition.table_end()];
         let fields = [self.version, self.disk, self.revolutions, self.start, self.end, self.flags, self.width, self.heads];
         set(&mut image, 0, b"SCP");
         set(&mut image, 3, &fields);

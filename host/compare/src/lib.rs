@@ -2,6 +2,7 @@
 //!
 //! A case is an input by chance (an image, flux, times, an image with a sequence of calls, or bytes that an image is written over) with the
 //! questions that are put to both.
+//! SCP images are laid out for either edition, and every question about one is put by both.
 //! Cases are numbered; a seed and a number give the same case again. The modules of DSK images are those with `dsk` in their name.
 
 #![forbid(unsafe_code)]
@@ -17,6 +18,7 @@ pub mod dsk_image;
 pub mod dsk_layouts;
 pub mod dsk_question;
 pub mod dsk_writing;
+pub mod edition;
 pub mod generate;
 pub mod guarded;
 pub mod image;

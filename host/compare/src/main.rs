@@ -13,7 +13,7 @@ use std::thread;
 const USAGE: &str = "usage: compare [--format F] [--cases N] [--seed S] [--case NUMBER]
   --format F     only this format, scp or dsk (default: one after the other)
   --cases N      how many cases of a format (default 240000 of scp, 160000 of dsk); from 10000 on, a number of refusal that never came up
-                 is a failure
+                 is a failure, in scp by each edition
   --seed S       the seed (default 1)
   --case NUMBER  only this case";
 

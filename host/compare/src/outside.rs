@@ -2,6 +2,7 @@
 
 use crate::image::{set, store_checksum, FooterPart, Layout, Parts, RevolutionPart, TrackPart};
 use crate::random::Random;
+use scp::Edition;
 
 /// Cells of a double-density disk at 25 ns: intervals of 4, 6 and 8 µs with some jitter, now and then a long gap.
 pub fn flux_words(random: &mut Random, count: usize) -> Vec<u16> {
@@ -16,9 +17,10 @@ pub fn flux_words(random: &mut Random, count: usize) -> Vec<u16> {
     words
 }
 
-/// What a tool writes: which tracks, how many revolutions, and what comes after the flux.
+/// What a tool writes: by which edition, which tracks, how many revolutions, and what comes after the flux.
 #[derive(Clone, Copy)]
 pub struct Style {
+    pub edition: Edition,
     pub version: u8,
     pub disk: u8,
     pub flags: u8,
@@ -31,6 +33,7 @@ pub struct Style {
 
 /// A double-sided capture of five revolutions, with the timestamp after the flux and a footer that names its application.
 pub const CAPTURE: Style = Style {
+    edition: Edition::V1_6,
     version: 0,
     disk: 0x80,
     flags: 0x23,
@@ -44,6 +47,23 @@ pub const CAPTURE: Style = Style {
 /// An older capture without footer, version 1.6 in the header.
 pub const OLD_CAPTURE: Style =
     Style { version: 0x16, flags: 0x01, revolutions: 3, timestamp: "07/14/2014 09:00:00 PM", application: "", ..CAPTURE };
+
+/// A capture by revision 1.4: the first track data header at 0x2A8, an Amiga disk, and the timestamp as the last bytes.
+pub const CAPTURE_1_4: Style = Style {
+    edition: Edition::V1_4,
+    version: 0x15,
+    disk: 0x04,
+    flags: 0x01,
+    timestamp: "11/22/2014 5:15:21 PM",
+    application: "",
+    ..CAPTURE
+};
+
+/// As many tracks as revision 1.4 has, of two revolutions, the default of that time, and normalized.
+pub const FULL_1_4: Style = Style { last_track: 165, revolutions: 2, flags: 0x0B, ..CAPTURE_1_4 };
+
+/// One side by revision 1.4, read/write, and no timestamp.
+pub const READ_WRITE_1_4: Style = Style { heads: 2, revolutions: 1, last_track: 165, flags: 0x11, timestamp: "", ..CAPTURE_1_4 };
 
 /// A single-sided capture: every other entry.
 pub const SINGLE_SIDED: Style = Style { heads: 1, revolutions: 2, timestamp: "", application: "Greaseweazle 1.16", flags: 0x61, ..CAPTURE };
@@ -70,6 +90,7 @@ pub fn image(style: &Style, words: usize) -> Vec<u8> {
         versions: [0x22, 0x12, 0x13, 0x16],
     });
     let parts = Parts {
+        edition: style.edition,
         version: style.version,
         disk: style.disk,
         revolutions: style.revolutions,

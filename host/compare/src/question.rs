@@ -4,14 +4,15 @@ use crate::ask::Ask;
 use crate::boundary::{fill, fill_two, BYTE, FLOAT, NUMBER};
 use crate::count::Kind;
 use crate::difference::{same, same_code, Difference};
+use crate::edition::{is_1_4, named};
 use crate::guarded::Guarded;
-use crate::sequence::{self, CALL, NOT_IN_ROWS};
+use crate::sequence::{self, CALL, EDITION};
 use scp::raw;
 use scp_reader as reader;
 
-/// A call with its arguments; `places` is the size of the buffer lent for numbers.
+/// A call on an image, but for the edition; `places` is the size of the buffer lent for numbers.
 #[derive(Clone, Debug, PartialEq, Eq)]
-pub enum Question {
+pub enum Asked {
     Validate,
     Header { places: usize },
     Footer { places: usize },
@@ -21,10 +22,23 @@ pub enum Question {
     Speed { track: u32, revolution: u32, places: usize },
     TrackSpeed { track: u32, places: usize },
     Rewrite { track: u32, revolution: u32, duration: u32, words: Vec<u8> },
+}
+
+/// A call with its arguments: on an image by the edition that a number names, a sequence of such calls, or one on flux or times.
+#[derive(Clone, Debug, PartialEq, Eq)]
+pub enum Question {
+    OnImage { edition: u32, asked: Asked },
     Sequence { calls: Vec<u64>, words: Vec<u8>, places: usize },
     Step { word: u64, places: usize },
     Intervals { times: usize, places: usize },
     Words { times: Vec<u64>, room: usize, places: usize },
+}
+
+impl Asked {
+    /// The call by the edition that a number names.
+    pub fn by(self, edition: u32) -> Question {
+        Question::OnImage { edition, asked: self }
+    }
 }
 
 /// What the two agree on: the number of the call's refusal, 0 for none, and of a sequence that of each row.
@@ -37,13 +51,33 @@ pub struct Agreed {
 /// An answer, and every number of refusal.
 const NUMBERS: &[u32] = &[0, 1, 2, 3, 4, 5, 6, 7, 8, 9, 10, 11, 12, 13, 14, 15, 16, 17, 18];
 
+/// Where the kinds of calls and of rows stand: by revision 1.4, and directly behind it by 1.6.
+const CALLS: usize = 0;
+const ROWS: usize = 2;
+const REPLAYS: usize = 4;
+const FLUX_AND_TIMES: usize = 5;
+
+/// A kind by an edition, where some numbers of refusal never come up.
+const fn kind(all: &'static str, one: &'static str, never: &'static [u32]) -> Kind {
+    Kind { all, one, numbers: NUMBERS, never }
+}
+
+/// A kind by the number of its edition, of the two that start at one.
+fn by_edition(kind: usize, number: u64) -> usize {
+    kind + usize::from(!is_1_4(number))
+}
+
 impl Ask for Question {
     type Agreed = Agreed;
 
-    /// Single calls, a replay as a whole among them, and the rows of replays.
+    /// Single calls on images and the rows of replays, each by both editions; replays as a whole; calls on flux and times.
     const KINDS: &'static [Kind] = &[
-        Kind { all: "single calls", one: "single call", numbers: NUMBERS, never: &[] },
-        Kind { all: "rows of replays (none is refused with 15 or 16)", one: "row of a replay", numbers: NUMBERS, never: &NOT_IN_ROWS },
+        kind("single calls by 1.4 (none is refused with 7, 8 or 16)", "single call by 1.4", &[7, 8, 16]),
+        kind("single calls by 1.6 (none is refused with 16)", "single call by 1.6", &[16]),
+        kind("rows of replays by 1.4 (none is refused with 7, 8, 15 or 16)", "row of a replay by 1.4", &[7, 8, 15, 16]),
+        kind("rows of replays by 1.6 (none is refused with 15 or 16)", "row of a replay by 1.6", &[15, 16]),
+        Kind { all: "replays", one: "replay", numbers: &[0, 15], never: &[] },
+        Kind { all: "calls on flux and times", one: "call on flux or times", numbers: &[0, 15, 16, 17], never: &[] },
     ];
 
     fn compare(&self, bytes: &[u8]) -> Result<Agreed, Difference> {
@@ -51,8 +85,15 @@ impl Ask for Question {
     }
 
     fn counted(&self, _bytes: &[u8], agreed: &Agreed) -> Vec<(usize, u32)> {
-        let rows = agreed.rows.iter().map(|&number| (1, number));
-        rows.chain([(0, agreed.number)]).collect()
+        match self {
+            Question::OnImage { edition, .. } => vec![(by_edition(CALLS, (*edition).into()), agreed.number)],
+            Question::Sequence { calls, .. } => {
+                let rows = calls.chunks_exact(CALL).zip(&agreed.rows);
+                let rows = rows.map(|(call, &number)| (by_edition(ROWS, call[EDITION]), number));
+                rows.chain([(REPLAYS, agreed.number)]).collect()
+            }
+            Question::Step { .. } | Question::Intervals { .. } | Question::Words { .. } => vec![(FLUX_AND_TIMES, agreed.number)],
+        }
     }
 
     /// A sequence without one of its calls, or fewer times.
@@ -74,11 +115,11 @@ impl Ask for Question {
 /// Puts the question about these bytes (an image, or flux) to both.
 pub fn compare(bytes: &[u8], question: &Question) -> Result<Agreed, Difference> {
     let number = match question {
+        Question::OnImage { edition, asked } => on_image(bytes, *edition, asked),
         Question::Sequence { calls, words, places } => return sequence::compare(bytes, calls, words, *places),
-        Question::Rewrite { track, revolution, duration, words } => rewrite(bytes, *track, *revolution, *duration, words),
+        Question::Step { word, places } => step(bytes, *word, *places),
         Question::Intervals { times, places } => intervals(bytes, *times, *places),
         Question::Words { times, room, places } => words(times, *room, *places),
-        _ => ask(bytes, question),
     }?;
     Ok(Agreed { number, rows: Vec::new() })
 }
@@ -88,54 +129,57 @@ pub fn number(bytes: &[u8], question: &Question) -> Result<u32, Difference> {
     compare(bytes, question).map(|agreed| agreed.number)
 }
 
-/// The questions that only read the bytes and fill one buffer.
-fn ask(bytes: &[u8], question: &Question) -> Result<u32, Difference> {
+/// A call on an image: a rewrite, or a question that leaves every byte.
+fn on_image(bytes: &[u8], edition: u32, asked: &Asked) -> Result<u32, Difference> {
+    if let Asked::Rewrite { track, revolution, duration, words } = asked {
+        return rewrite(bytes, edition, (*track, *revolution), *duration, words);
+    }
     let lent = Guarded::new(bytes, BYTE);
-    let image = lent.contents();
-    let number = match *question {
-        Question::Validate => {
-            let expected = reader::validate(image).map(|()| Vec::new());
-            fill(expected, 0, NUMBER, |_| raw::validate(image))
-        }
-        Question::Header { places } => {
-            let expected = reader::header(image).map(|header| header_numbers(&header).to_vec());
-            fill(expected, places, NUMBER, |out| raw::header(image, out))
-        }
-        Question::Footer { places } => {
-            let expected = reader::footer(image).map(|footer| footer_numbers(&footer).to_vec());
-            fill(expected, places, NUMBER, |out| raw::footer(image, out))
-        }
-        Question::Track { track, places } => {
-            let expected = reader::track(image, track).map(|track| track_numbers(&track).to_vec());
-            fill(expected, places, NUMBER, |out| raw::track(image, track, out))
-        }
-        Question::Revolution { track, revolution, places } => {
-            let expected = reader::revolution(image, track, revolution).map(|found| revolution_numbers(&found).to_vec());
-            fill(expected, places, NUMBER, |out| raw::revolution(image, track, revolution, out))
-        }
-        Question::Flux { track, revolution, places } => {
-            let expected = reader::flux(image, track, revolution);
-            fill(expected, places, BYTE, |out| raw::flux(image, track, revolution, out))
-        }
-        Question::Speed { track, revolution, places } => {
-            let floats = |speed: Option<f64>| speed.map_or(vec![0.0, 0.0], |rpm| vec![1.0, rpm]);
-            let expected = reader::speed(image, track, revolution).map(floats);
-            fill(expected, places, FLOAT, |out| raw::speed(image, track, revolution, out))
-        }
-        Question::TrackSpeed { track, places } => {
-            let floats = |speeds: Option<(f64, f64)>| speeds.map_or(vec![0.0; 3], |(slow, fast)| vec![1.0, slow, fast]);
-            let expected = reader::track_speed(image, track).map(floats);
-            fill(expected, places, FLOAT, |out| raw::track_speed(image, track, out))
-        }
-        Question::Step { word, places } => {
-            let numbers = |step: reader::Step| vec![step.interval.unwrap_or(0), step.open, step.next];
-            let expected = reader::step(image, word).map(numbers);
-            fill(expected, places, NUMBER, |out| raw::step(image, word, out))
-        }
-        _ => unreachable!("{question:?} is compared elsewhere"),
-    }?;
-    same("the bytes asked about", &lent, bytes)?;
+    let number = ask(lent.contents(), edition, asked)?;
+    same("the image asked about", &lent, bytes)?;
     Ok(number)
+}
+
+/// The questions about an image, each of which fills one buffer.
+fn ask(image: &[u8], edition: u32, asked: &Asked) -> Result<u32, Difference> {
+    let by = named(edition);
+    match *asked {
+        Asked::Validate => {
+            let expected = reader::validate(image, by).map(|()| Vec::new());
+            fill(expected, 0, NUMBER, |_| raw::validate(image, edition))
+        }
+        Asked::Header { places } => {
+            let expected = reader::header(image, by).map(|header| header_numbers(&header).to_vec());
+            fill(expected, places, NUMBER, |out| raw::header(image, edition, out))
+        }
+        Asked::Footer { places } => {
+            let expected = reader::footer(image, by).map(|footer| footer_numbers(&footer).to_vec());
+            fill(expected, places, NUMBER, |out| raw::footer(image, edition, out))
+        }
+        Asked::Track { track, places } => {
+            let expected = reader::track(image, by, track).map(|track| track_numbers(&track).to_vec());
+            fill(expected, places, NUMBER, |out| raw::track(image, edition, track, out))
+        }
+        Asked::Revolution { track, revolution, places } => {
+            let expected = reader::revolution(image, by, track, revolution).map(|found| revolution_numbers(&found).to_vec());
+            fill(expected, places, NUMBER, |out| raw::revolution(image, edition, track, revolution, out))
+        }
+        Asked::Flux { track, revolution, places } => {
+            let expected = reader::flux(image, by, track, revolution);
+            fill(expected, places, BYTE, |out| raw::flux(image, edition, track, revolution, out))
+        }
+        Asked::Speed { track, revolution, places } => {
+            let floats = |speed: Option<f64>| speed.map_or(vec![0.0, 0.0], |rpm| vec![1.0, rpm]);
+            let expected = reader::speed(image, by, track, revolution).map(floats);
+            fill(expected, places, FLOAT, |out| raw::speed(image, edition, track, revolution, out))
+        }
+        Asked::TrackSpeed { track, places } => {
+            let floats = |speeds: Option<(f64, f64)>| speeds.map_or(vec![0.0; 3], |(slow, fast)| vec![1.0, slow, fast]);
+            let expected = reader::track_speed(image, by, track).map(floats);
+            fill(expected, places, FLOAT, |out| raw::track_speed(image, edition, track, out))
+        }
+        Asked::Rewrite { .. } => unreachable!("a rewrite is compared elsewhere"),
+    }
 }
 
 // ---- the values of answers, as the table of the boundary names them
@@ -164,15 +208,25 @@ fn revolution_numbers(revolution: &reader::Revolution) -> [u64; 3] {
 // ---- calls with several buffers
 
 /// A rewrite: the code, and every byte of the image and of the words.
-fn rewrite(bytes: &[u8], track: u32, revolution: u32, duration: u32, words: &[u8]) -> Result<u32, Difference> {
+fn rewrite(bytes: &[u8], edition: u32, (track, revolution): (u32, u32), duration: u32, words: &[u8]) -> Result<u32, Difference> {
     let mut wanted = bytes.to_vec();
-    let expected = reader::rewrite(&mut wanted, track, revolution, duration, words);
+    let expected = reader::rewrite(&mut wanted, named(edition), track, revolution, duration, words);
     let mut image = Guarded::new(bytes, BYTE);
     let lent_words = Guarded::new(words, BYTE);
-    let got = raw::rewrite(image.lent(), track, revolution, duration, lent_words.contents());
+    let got = raw::rewrite(image.lent(), edition, track, revolution, duration, lent_words.contents());
     let number = same_code(&expected, got)?;
     same("the image", &image, &wanted)?;
     same("the words", &lent_words, words)?;
+    Ok(number)
+}
+
+/// A step over flux.
+fn step(flux: &[u8], word: u64, places: usize) -> Result<u32, Difference> {
+    let lent = Guarded::new(flux, BYTE);
+    let numbers = |step: reader::Step| vec![step.interval.unwrap_or(0), step.open, step.next];
+    let expected = reader::step(flux, word).map(numbers);
+    let number = fill(expected, places, NUMBER, |out| raw::step(lent.contents(), word, out))?;
+    same("the flux", &lent, flux)?;
     Ok(number)
 }
 
@@ -199,11 +253,24 @@ mod tests {
     use super::*;
 
     #[test]
-    fn every_number_is_counted_and_rows_never_have_15_and_16() {
+    fn every_number_is_counted_but_those_that_never_come_up() {
         let all: Vec<u32> = (0..=18).collect();
-        let [calls, rows] = Question::KINDS else { panic!("calls and rows are counted") };
-        assert_eq!((calls.numbers, calls.never), (&all[..], &[][..]));
-        assert_eq!((rows.numbers, rows.never), (&all[..], &[15, 16][..]));
         assert_eq!(scp::Reason::ALL.map(|reason| u32::from(reason.number())), all[1..]);
+        let by_editions = &Question::KINDS[..4];
+        assert!(by_editions.iter().all(|kind| kind.numbers == all));
+        let never: Vec<&[u32]> = by_editions.iter().map(|kind| kind.never).collect();
+        assert_eq!(never, [&[7, 8, 16][..], &[16], &[7, 8, 15, 16], &[15, 16]]);
+    }
+
+    #[test]
+    fn calls_and_rows_count_for_the_edition_that_they_name() {
+        let call = |edition: u32| Asked::Validate.by(edition).counted(&[], &Agreed { number: 3, rows: Vec::new() });
+        assert_eq!([14, 16, 0].map(call), [vec![(0, 3)], vec![(1, 3)], vec![(1, 3)]]);
+        let calls = [[0, 0, 0, 0, 0, 0, 14], [0, 0, 0, 0, 0, 0, 14 + (1 << 32)]].concat();
+        let sequence = Question::Sequence { calls, words: Vec::new(), places: 32 };
+        assert_eq!(sequence.counted(&[], &Agreed { number: 0, rows: vec![1, 2] }), [(2, 1), (3, 2), (4, 0)]);
+        let names = Question::KINDS.iter().map(|kind| kind.one).collect::<Vec<_>>();
+        assert_eq!(names[..2], ["single call by 1.4", "single call by 1.6"]);
+        assert_eq!(names[2..], ["row of a replay by 1.4", "row of a replay by 1.6", "replay", "call on flux or times"]);
     }
 }

@@ -7,11 +7,11 @@ use scp::raw;
 use scp_reader as reader;
 
 /// Numbers of a call, and of an answer.
-pub const CALL: usize = 6;
+pub const CALL: usize = 7;
 pub const ANSWER: usize = 16;
 
-/// The numbers of refusal that no row holds: a call of a sequence is lent no buffer and no times.
-pub const NOT_IN_ROWS: [u32; 2] = [15, 16];
+/// Which number of a call names the edition.
+pub const EDITION: usize = 6;
 
 /// What stands in the places for answers before the call.
 const NUMBER: u64 = 0xA1A2_A3A4_A5A6_A7A8;
@@ -45,26 +45,26 @@ pub fn compare(bytes: &[u8], calls: &[u64], words: &[u8], places: usize) -> Resu
     Ok(agreed)
 }
 
-/// The row that one call by itself answers.
+/// The row that one call by itself answers. A number above 32 bits counts as the largest of them, which is no edition but 1.6, either.
 fn one_by_one(image: &mut [u8], call: &[u64], words: &[u8]) -> [u64; ANSWER] {
     let bounded = |number: u64| number.min(u64::from(u32::MAX)) as u32;
-    let (track, revolution) = (bounded(call[1]), bounded(call[2]));
+    let (track, revolution, edition) = (bounded(call[1]), bounded(call[2]), bounded(call[EDITION]));
     let mut values = [0; ANSWER - 2];
     let code = match call[0] {
-        1 => raw::header(image, &mut values[..9]),
-        2 => raw::footer(image, &mut values[..13]),
-        3 => raw::track(image, track, &mut values[..4]),
-        4 => raw::revolution(image, track, revolution, &mut values[..3]),
-        5 => flux(image, track, revolution, &mut values),
-        6 => floats::<2>(&mut values, |out| raw::speed(image, track, revolution, out)),
-        7 => floats::<3>(&mut values, |out| raw::track_speed(image, track, out)),
+        1 => raw::header(image, edition, &mut values[..9]),
+        2 => raw::footer(image, edition, &mut values[..13]),
+        3 => raw::track(image, edition, track, &mut values[..4]),
+        4 => raw::revolution(image, edition, track, revolution, &mut values[..3]),
+        5 => flux(image, edition, track, revolution, &mut values),
+        6 => floats::<2>(&mut values, |out| raw::speed(image, edition, track, revolution, out)),
+        7 => floats::<3>(&mut values, |out| raw::track_speed(image, edition, track, out)),
         8 => {
             let start = call[4].min(words.len() as u64);
             let end = start + call[5].min(words.len() as u64 - start);
             let part = &words[start as usize..end as usize];
-            raw::rewrite(image, track, revolution, call[3] as u32, part)
+            raw::rewrite(image, edition, track, revolution, call[3] as u32, part)
         }
-        _ => raw::validate(image),
+        _ => raw::validate(image, edition),
     };
     let mut row = [0; ANSWER];
     row[..2].copy_from_slice(&[code % 256, code / 256]);
@@ -73,14 +73,14 @@ fn one_by_one(image: &mut [u8], call: &[u64], words: &[u8]) -> [u64; ANSWER] {
 }
 
 /// The flux of a revolution as its file offset, how many bytes and their sum.
-fn flux(image: &[u8], track: u32, revolution: u32, values: &mut [u64]) -> u64 {
+fn flux(image: &[u8], edition: u32, track: u32, revolution: u32, values: &mut [u64]) -> u64 {
     let mut found = [0; 3];
-    let code = raw::revolution(image, track, revolution, &mut found);
+    let code = raw::revolution(image, edition, track, revolution, &mut found);
     if code != 0 {
         return code;
     }
     let mut bytes = vec![0; 2 * found[1] as usize];
-    let code = raw::flux(image, track, revolution, &mut bytes);
+    let code = raw::flux(image, edition, track, revolution, &mut bytes);
     let sum = bytes.iter().fold(0u32, |sum, &byte| sum.wrapping_add(byte.into()));
     values[..3].copy_from_slice(&[found[2], bytes.len() as u64, sum.into()]);
     code

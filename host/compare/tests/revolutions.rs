@@ -1,9 +1,11 @@
 //! Images of few and of many revolutions, read-only and read/write (L-3, R-4): validated, read, rewritten, and compared.
 
-use scp_compare::cases::{agree, revolutions, some_questions};
-use scp_compare::image::{duration_at, set, store_checksum, TABLE_END};
+use scp::Edition;
+use scp_compare::cases::{agree, answer_some, first_middle_last, revolutions};
+use scp_compare::edition::{V1_4, V1_6};
+use scp_compare::image::{duration_at, set, store_checksum};
 use scp_compare::outside::{image, Style, CAPTURE};
-use scp_compare::question::{compare, number, Question};
+use scp_compare::question::{compare, number, Asked, Question};
 use scp_compare::sequence::{ANSWER, CALL};
 
 /// The numbers of revolutions that are tried.
@@ -21,16 +23,10 @@ fn accepted() -> Vec<Vec<u8>> {
     read_only.chain([three_tracks(1, true)]).map(|style| image(&style, 4)).collect()
 }
 
-/// The first, the middle and the last revolution of an image.
-fn first_middle_last(image: &[u8]) -> [u32; 3] {
-    let count = revolutions(image);
-    [0, count / 2, count.saturating_sub(1)]
-}
-
 /// What a revolution reads as: its duration and its words.
 fn reading(image: &[u8], track: u32, revolution: u32) -> (u32, Vec<u8>) {
-    let found = scp::revolution(image, track, revolution).unwrap();
-    (found.duration, scp::flux(image, track, revolution).unwrap().to_vec())
+    let found = scp::revolution(image, Edition::V1_6, track, revolution).unwrap();
+    (found.duration, scp::flux(image, Edition::V1_6, track, revolution).unwrap().to_vec())
 }
 
 #[test]
@@ -40,12 +36,12 @@ fn zero_revolutions_and_several_on_a_read_write_image_are_refused_with_4() {
             let name = format!("{revolutions} revolutions, read/write {read_write}");
             let image = image(&three_tracks(revolutions, read_write), 4);
             let refused = revolutions == 0 || read_write && revolutions > 1;
-            let mut questions = vec![Question::Validate];
+            let mut asked = vec![Asked::Validate];
             for (track, revolution) in (0..3).zip(first_middle_last(&image)) {
-                questions.push(Question::Revolution { track, revolution, places: 3 });
-                questions.push(Question::Rewrite { track, revolution, duration: 1, words: vec![0, 1] });
+                asked.push(Asked::Revolution { track, revolution, places: 3 });
+                asked.push(Asked::Rewrite { track, revolution, duration: 1, words: vec![0, 1] });
             }
-            for question in questions {
+            for question in asked.into_iter().flat_map(|asked| [asked.clone().by(V1_4), asked.by(V1_6)]) {
                 assert_eq!(number(&image, &question), Ok(if refused { 4 } else { 0 }), "{name}: {question:?}");
             }
             agree(&name, &image);
@@ -61,12 +57,12 @@ fn the_first_the_middle_and_the_last_are_rewritten_and_the_others_stay() {
         let mut expected = Vec::new();
         for (track, revolution) in (0..3).zip(first_middle_last(&before)) {
             let (duration, words) = (1000 + track, vec![1, 2, 3, 4, track as u8, revolution as u8]);
-            let question = Question::Rewrite { track, revolution, duration, words: words.clone() };
+            let question = Asked::Rewrite { track, revolution, duration, words: words.clone() }.by(V1_6);
             assert_eq!(number(&after, &question), Ok(0), "{count} revolutions: {question:?}");
-            scp::rewrite(&mut after, track, revolution, duration, &words).unwrap();
+            scp::rewrite(&mut after, Edition::V1_6, track, revolution, duration, &words).unwrap();
             expected.push(((track, revolution), (duration, words)));
         }
-        assert_eq!(scp::validate(&after), Ok(()), "{count} revolutions");
+        assert_eq!(scp::validate(&after, Edition::V1_6), Ok(()), "{count} revolutions");
         for place @ (track, revolution) in (0..3).flat_map(|track| (0..count).map(move |revolution| (track, revolution))) {
             let rewritten = expected.iter().find(|(at, _)| *at == place).map(|(_, reading)| reading.clone());
             let due = rewritten.unwrap_or_else(|| reading(&before, track, revolution));
@@ -83,7 +79,7 @@ fn a_sequence_of_calls_reaches_the_last_revolution() {
         for revolution in first_middle_last(&image).into_iter().chain([count]) {
             // a rewrite; revolution, flux, speed, the track's speeds, validating
             for kind in [8, 4, 5, 6, 7, 0] {
-                calls.extend([kind, 2, revolution.into(), 7, 0, 2]);
+                calls.extend([kind, 2, revolution.into(), 7, 0, 2, V1_6.into()]);
             }
         }
         let places = ANSWER * calls.len() / CALL;
@@ -97,10 +93,11 @@ fn a_sequence_of_calls_reaches_the_last_revolution() {
 fn what_refuses_the_last_of_255_revolutions() {
     let sound = image(&Style { last_track: 0, flags: 0x01, timestamp: "", ..three_tracks(255, false) }, 1);
     // its header of 3,064 bytes ends at 3,752, and the flux of its last revolution at 4,262
-    let (first, last) = (duration_at(TABLE_END, 0), duration_at(TABLE_END, 254));
+    let header = Edition::V1_6.table_end();
+    let (first, last) = (duration_at(header, 0), duration_at(header, 254));
     assert_eq!((last + 12, sound.len()), (3_752, 4_262));
-    let rewrite = |revolution| Question::Rewrite { track: 0, revolution, duration: 1, words: vec![0, 1] };
-    let asked = [Question::Validate, rewrite(0), rewrite(127), rewrite(254), rewrite(255)];
+    let rewrite = |revolution| Asked::Rewrite { track: 0, revolution, duration: 1, words: vec![0, 1] };
+    let asked = [Asked::Validate, rewrite(0), rewrite(127), rewrite(254), rewrite(255)].map(|asked| asked.by(V1_6));
     let count = |words: u32| (last + 4, words);
     for (name, size, (place, value), due) in [
         ("sound", 4_262, count(1), [0, 0, 0, 0, 14]),
@@ -125,34 +122,18 @@ fn what_refuses_the_last_of_255_revolutions() {
     }
 }
 
-/// Asks both about the first, the middle and the last revolution of the first, a middle and the last track, rewrites one on each, and asks for
-/// one that is not there.
-fn agree_on_some(image: &[u8], last_track: u32) {
-    let (tracks, asked) = ([0, last_track / 2, last_track], first_middle_last(image));
-    let mut questions = some_questions(image, &tracks, &asked);
-    for (track, revolution) in tracks.into_iter().zip(asked) {
-        let words = scp::flux(image, track, revolution).unwrap().iter().rev().copied().collect();
-        questions.push(Question::Rewrite { track, revolution, duration: 8_000_000, words });
-    }
-    for question in questions {
-        assert_eq!(number(image, &question), Ok(0), "{question:?}");
-    }
-    let absent = Question::Revolution { track: last_track, revolution: revolutions(image), places: 3 };
-    assert_eq!(number(image, &absent), Ok(14));
-}
-
 #[test]
 fn a_capture_of_nine_revolutions_in_its_real_size_is_read_and_rewritten() {
     // 80 cylinders, 200 ms a revolution: 33,333 intervals of 240 ticks on average
     let capture = image(&Style { revolutions: 9, ..CAPTURE }, 33_333);
     assert!(capture.len() > 90_000_000, "{} bytes", capture.len());
-    agree_on_some(&capture, 159);
-    let flux = scp::flux(&capture, 159, 8).unwrap();
+    answer_some(&capture, Edition::V1_6, 159);
+    let flux = scp::flux(&capture, Edition::V1_6, 159, 8).unwrap();
     assert_eq!(number(flux, &Question::Intervals { times: 33_333, places: 2 }), Ok(0));
 }
 
 #[test]
 fn the_most_tracks_of_the_most_revolutions_are_read_and_rewritten() {
     let image = image(&Style { revolutions: 255, last_track: 167, ..CAPTURE }, 3);
-    agree_on_some(&image, 167);
+    answer_some(&image, Edition::V1_6, 167);
 }

@@ -1,6 +1,8 @@
-//! The wrapper's structs and enums beside the reader's, on generated images: nothing is lost or mixed up on the way from the numbers.
+//! The wrapper's structs and enums beside the reader's, on generated images by both editions: nothing is lost or mixed up on the way from
+//! the numbers.
 
-use scp::{Answer, Call, Refusal};
+use scp::{Answer, Call, Edition, Refusal};
+use scp_compare::edition::named;
 use scp_compare::generate;
 use scp_compare::image::flux_bytes;
 use scp_compare::random::Random;
@@ -40,23 +42,34 @@ fn speeds((slowest, fastest): (f64, f64)) -> scp::TrackSpeeds {
     scp::TrackSpeeds { slowest, fastest }
 }
 
+/// The reader's name of an edition.
+fn by(edition: Edition) -> reader::Edition {
+    named(edition.number())
+}
+
+/// The tracks that the reader finds.
+fn present(image: &[u8], edition: Edition) -> Vec<u32> {
+    (0..200).filter(|&number| reader::track(image, by(edition), number).is_ok()).collect()
+}
+
 /// What the reader answers to a call of a sequence.
-fn expected(image: &mut [u8], call: &Call) -> Result<Answer, reader::Refusal> {
+fn expected(image: &mut [u8], edition: Edition, call: &Call) -> Result<Answer, reader::Refusal> {
+    let v = by(edition);
     Ok(match *call {
-        Call::Validate => reader::validate(image).map(|()| Answer::Valid)?,
-        Call::Header => Answer::Header(header(reader::header(image)?)),
-        Call::Footer => Answer::Footer(reader::footer(image)?.map(footer)),
-        Call::Track { track: t } => Answer::Track(track(reader::track(image, t)?)),
-        Call::Revolution { track, revolution: k } => Answer::Revolution(revolution(reader::revolution(image, track, k)?)),
+        Call::Validate => reader::validate(image, v).map(|()| Answer::Valid)?,
+        Call::Header => Answer::Header(header(reader::header(image, v)?)),
+        Call::Footer => Answer::Footer(reader::footer(image, v)?.map(footer)),
+        Call::Track { track: t } => Answer::Track(track(reader::track(image, v, t)?)),
+        Call::Revolution { track, revolution: k } => Answer::Revolution(revolution(reader::revolution(image, v, track, k)?)),
         Call::Flux { track, revolution } => {
-            let offset = reader::revolution(image, track, revolution)?.place;
-            let flux = reader::flux(image, track, revolution)?;
+            let offset = reader::revolution(image, v, track, revolution)?.place;
+            let flux = reader::flux(image, v, track, revolution)?;
             Answer::Flux { offset, size: flux.len() as u64, sum: flux.iter().map(|&byte| u32::from(byte)).sum() }
         }
-        Call::Speed { track, revolution } => Answer::Speed(reader::speed(image, track, revolution)?),
-        Call::TrackSpeed { track } => Answer::TrackSpeed(reader::track_speed(image, track)?.map(speeds)),
+        Call::Speed { track, revolution } => Answer::Speed(reader::speed(image, v, track, revolution)?),
+        Call::TrackSpeed { track } => Answer::TrackSpeed(reader::track_speed(image, v, track)?.map(speeds)),
         Call::Rewrite { track, revolution, duration, ref words } => {
-            reader::rewrite(image, track, revolution, duration, words).map(|()| Answer::Rewritten)?
+            reader::rewrite(image, v, track, revolution, duration, words).map(|()| Answer::Rewritten)?
         }
     })
 }
@@ -79,26 +92,32 @@ fn calls(track: u32, revolution: u32) -> Vec<Call> {
     ]
 }
 
+/// The wrapper answers about the image as the reader does, by an edition.
+fn agree(image: &[u8], edition: Edition, k: u32) {
+    let v = by(edition);
+    assert_eq!(plain(scp::validate(image, edition)), other(reader::validate(image, v)));
+    assert_eq!(plain(scp::header(image, edition)), other(reader::header(image, v)).map(header));
+    assert_eq!(plain(scp::footer(image, edition)), other(reader::footer(image, v)).map(|found| found.map(footer)));
+    let present = present(image, edition);
+    assert_eq!(plain(scp::tracks(image, edition)), other(reader::header(image, v)).map(|_| present.clone()));
+    let t = present.first().copied().unwrap_or(168);
+    assert_eq!(plain(scp::track(image, edition, t)), other(reader::track(image, v, t)).map(track));
+    assert_eq!(plain(scp::revolution(image, edition, t, k)), other(reader::revolution(image, v, t, k)).map(revolution));
+    let flux = other(reader::flux(image, v, t, k));
+    assert_eq!(plain(scp::flux(image, edition, t, k)).map(<[u8]>::to_vec), flux);
+    assert_eq!(plain(scp::speed(image, edition, t, k)), other(reader::speed(image, v, t, k)));
+    assert_eq!(plain(scp::track_speed(image, edition, t)), other(reader::track_speed(image, v, t)).map(|found| found.map(speeds)));
+    let mut room = vec![9; 3000];
+    assert_eq!(plain(scp::copy_flux(image, edition, t, k, &mut room)).map(|size| room[..size].to_vec()), flux);
+}
+
 #[test]
 fn answers_are_those_of_the_reader() {
     let mut random = Random::new(2);
     for _ in 0..4000 {
         let image = generate::image(&mut random);
-        assert_eq!(plain(scp::validate(&image)), other(reader::validate(&image)));
-        assert_eq!(plain(scp::header(&image)), other(reader::header(&image)).map(header));
-        assert_eq!(plain(scp::footer(&image)), other(reader::footer(&image)).map(|found| found.map(footer)));
-        let present: Vec<u32> = (0..168).filter(|&number| reader::track(&image, number).is_ok()).collect();
-        assert_eq!(plain(scp::tracks(&image)), other(reader::header(&image)).map(|_| present.clone()));
-        let t = present.first().copied().unwrap_or(168);
         let k = random.below(3) as u32;
-        assert_eq!(plain(scp::track(&image, t)), other(reader::track(&image, t)).map(track));
-        assert_eq!(plain(scp::revolution(&image, t, k)), other(reader::revolution(&image, t, k)).map(revolution));
-        assert_eq!(plain(scp::flux(&image, t, k)).map(<[u8]>::to_vec), other(reader::flux(&image, t, k)));
-        assert_eq!(plain(scp::speed(&image, t, k)), other(reader::speed(&image, t, k)));
-        assert_eq!(plain(scp::track_speed(&image, t)), other(reader::track_speed(&image, t)).map(|found| found.map(speeds)));
-        let mut room = vec![9; 3000];
-        let copied = plain(scp::copy_flux(&image, t, k, &mut room)).map(|size| room[..size].to_vec());
-        assert_eq!(copied, other(reader::flux(&image, t, k)));
+        Edition::ALL.into_iter().for_each(|edition| agree(&image, edition, k));
     }
 }
 
@@ -106,12 +125,30 @@ fn answers_are_those_of_the_reader() {
 fn a_replay_answers_as_the_reader_call_by_call() {
     let mut random = Random::new(3);
     for _ in 0..4000 {
+        let before = generate::image(&mut random);
+        for edition in Edition::ALL {
+            let track = present(&before, edition).first().copied().unwrap_or(0);
+            let calls = calls(track, random.below(3) as u32);
+            let (mut image, mut own) = (before.clone(), before.clone());
+            let answers: Vec<_> = scp::replay(&mut image, edition, &calls).into_iter().map(plain).collect();
+            let wanted: Vec<_> = calls.iter().map(|call| other(expected(&mut own, edition, call))).collect();
+            assert_eq!(answers, wanted);
+            assert_eq!(image, own);
+        }
+    }
+}
+
+#[test]
+fn a_mixed_replay_answers_each_call_by_its_own_edition() {
+    let mut random = Random::new(5);
+    for _ in 0..4000 {
         let mut image = generate::image(&mut random);
         let mut own = image.clone();
-        let track = (0..168).find(|&number| reader::track(&image, number).is_ok()).unwrap_or(0);
-        let calls = calls(track, random.below(3) as u32);
-        let answers: Vec<_> = scp::replay(&mut image, &calls).into_iter().map(plain).collect();
-        let wanted: Vec<_> = calls.iter().map(|call| other(expected(&mut own, call))).collect();
+        let track = Edition::ALL.iter().flat_map(|&edition| present(&image, edition)).next().unwrap_or(0);
+        let calls = [calls(track, 0), calls(track, random.below(3) as u32)].concat();
+        let named: Vec<(Edition, &Call)> = calls.iter().map(|call| (random.pick(&Edition::ALL), call)).collect();
+        let answers: Vec<_> = scp::replay_mixed(&mut image, named.iter().copied()).into_iter().map(plain).collect();
+        let wanted: Vec<_> = named.iter().map(|&(edition, call)| other(expected(&mut own, edition, call))).collect();
         assert_eq!(answers, wanted);
         assert_eq!(image, own);
     }

@@ -87,7 +87,8 @@ mod tests {
     use super::*;
     use scp::Edition;
     use scp_compare::cases::case;
-    use scp_compare::question::Question;
+    use scp_compare::edition::V1_4;
+    use scp_compare::question::{self, Question};
 
     /// How many cases of the comparison are looked at.
     const CASES: u64 = 60_000;
@@ -117,7 +118,9 @@ mod tests {
         for number in 0..CASES {
             let case = case(8, number);
             for question in &case.questions {
-                let Question::Rewrite { track, revolution, duration, words, .. } = question else { continue };
+                // every rewrite is asked by both editions, and tried by both where it is asked by the first
+                let Question::OnImage { edition: V1_4, asked } = question else { continue };
+                let question::Asked::Rewrite { track, revolution, duration, words } = asked else { continue };
                 let asked = Asked { track: *track, revolution: *revolution, size: words.len() };
                 for (edition, met) in Edition::ALL.into_iter().zip(&mut met) {
                     let layout = Layout { bytes: &case.bytes, edition };
