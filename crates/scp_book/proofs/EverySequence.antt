@@ -1,65 +1,62 @@
--- Demand 3, by induction over the calls: what one call keeps, the calls after it keep, too, and each revolution is noted call by call. What a
--- call keeps by the edition that it names is put together only where all calls name one.
-use Prim.Native.Nat.{ℕ, _<_}
-use mathlib.Core.Path.{_≡_, refl, sym, ap, _∙_}
-use mathlib.Core.Logic.{inl, inr}
+-- Demand 3, by induction over the calls: what one call keeps, the calls after it keep, too, and each revolution is noted call by call. A track
+-- that one edition finds lies up to the end track, which no call changes, so that every edition that opens the image finds it. What a call
+-- does by its own edition is put together only where one is named throughout.
+use Prim.Native.Nat.{ℕ, _<_, _≤_}
+use mathlib.Core.Path.{_≡_, refl, sym, ap, subst, _∙_}
+use mathlib.Core.Logic.{_≢_, inl, inr}
 use mathlib.Core.List.{List, [], _∷_}
-use mathlib.Core.Bool.{Bool, true, false}
 use Rattle.octets.specs.Numbers.{byteAt, Octets}
-use Rattle.refusals.specs.Refusals.{passes}
 use Rattle.scp_fields.specs.declared.Edition.{Edition}
-use Rattle.scp_fields.specs.Header.{checksumAt, revolutions}
+use Rattle.scp_fields.specs.Header.{checksumAt, revolutions, endTrack, trackEntry}
 use Rattle.scp_open.specs.Validity.{Opens}
 use Rattle.scp_open.proofs.Opens.{opens-exactly}
 use Rattle.scp.specs.Answers.{Answer}
 use Rattle.scp_sharing.specs.Extents.{extent, In}
-use Rattle.scp_sharing.specs.RewriteFault.{rewriteFault}
-use Rattle.scp_sharing.specs.Sharing.{Present}
 use Rattle.scp_rewrite.specs.OneRewrite.{reading}
-use Rattle.scp_rewrite.proofs.Kept.{Kept, still, both, KeptBy, still-by}
+use Rattle.scp_rewrite.proofs.Kept.{Kept, still, both}
 use Rattle.scp_rewrite.proofs.Checksums.{sound-distance}
-use Rattle.scp_rewrite.proofs.AfterRewrite.{rewrite-stays, rewrite-keeps, rewrite-keeps-by, rewrite-reads, every-rewrite}
+use Rattle.scp_rewrite.proofs.AfterRewrite.{rewrite-stays, rewrite-opens, rewrite-keeps, rewrite-rest, rewrite-reads, every-rewrite}
 use Rattle.scp_book.specs.Book as book
 use Rattle.scp_book.specs.Book.{Call, ask, rewrite, after, finalBytes, noted, lastPut}
-use Rattle.scp_book.specs.Claim.{Fits, AllFit, Does, EachDoes, Puts, SomePuts, named, AllName, OneEdition, Sequence, EverySequence}
+use Rattle.scp_book.specs.Claim.{Fits, AllFit, Does, EachDoes, Puts, SomePuts, Names, AllName, OneEdition, Sequence, EverySequence}
 
 -- ---- one call
+
+-- Track t is one of the table's up to the end track, and has revolution k; any edition that opens the image finds it.
+record Held (b : List ℕ) (t k : ℕ) : Type 0 where
+  within : t ≤ endTrack b
+  entry : trackEntry b t ≢ 0
+  below : k < revolutions b
 
 -- What one call does, whatever edition it names.
 record Step (b : List ℕ) (c : Call) : Type 0 where
   does : Does b c
   keeps : Kept b (after b c)
   rest : (i : ℕ) → (Puts b c i → ⊥) → (In i (extent checksumAt 4) → ⊥) → byteAt (after b c) i ≡ byteAt b i
+  notes : (t k : ℕ) → Held b t k → reading (after b c) t k ≡ noted b c t k (reading b t k)
 
 step : (b : List ℕ) (c : Call) → Fits c → Step b c
-unfolding after
-step b (ask v q) h = record { does = refl; keeps = still b; rest = λ i n o. refl }
+unfolding after noted
+step b (ask v q) h = record { does = refl; keeps = still b; rest = λ i n o. refl; notes = λ t k l. refl }
 step b (rewrite v t k d ws) h =
-    record { does = done; keeps = rewrite-keeps v b t k d ws (h .0) (h .1); rest = by (passes (rewriteFault v b t k ws)) refl }
-  where
-    done : Does b (rewrite v t k d ws)
-    done = every-rewrite v b t k d ws (h .0)
+    record {
+      does = every-rewrite v b t k d ws (h .0);
+      keeps = rewrite-keeps v b t k d ws (h .0) (h .1);
+      rest = rewrite-rest v b t k d ws (h .0);
+      notes = λ u j l. rewrite-reads v b t k d ws (h .0) u j (l .within) (l .entry) (l .below);
+    }
 
-    by : (x : Bool) → passes (rewriteFault v b t k ws) ≡ x → (i : ℕ) → (Puts b (rewrite v t k d ws) i → ⊥)
-        → (In i (extent checksumAt 4) → ⊥) → byteAt (after b (rewrite v t k d ws)) i ≡ byteAt b i
-    by true e i n o = done .accepted e .rest i (λ p. n (e, inl p)) (λ p. n (e, inr p)) o
-    by false e i n o = ap (λ (q : List ℕ). byteAt q i) (done .refused e)
-
--- What a call does by the edition that it names.
+-- What a call does by the edition v, if it names it or changes nothing.
 record StepBy (v : Edition) (b : List ℕ) (c : Call) : Type 0 where
   stays : (Opens v b → ⊥) → after b c ≡ b
-  keeps : KeptBy v b (after b c)
-  notes : (u j : ℕ) → Present v b u → j < revolutions b → reading (after b c) u j ≡ noted b c u j (reading b u j)
+  opens : Opens v b → Opens v (after b c)
 
-step-by : (b : List ℕ) (c : Call) → Fits c → StepBy (named c) b c
-unfolding after noted
-step-by b (ask v q) h = record { stays = λ n. refl; keeps = still-by v b; notes = λ u j p l. refl }
-step-by b (rewrite v t k d ws) h =
-    record {
-      stays = rewrite-stays v b t k d ws (h .0);
-      keeps = rewrite-keeps-by v b t k d ws (h .0);
-      notes = rewrite-reads v b t k d ws (h .0);
-    }
+step-by : (v : Edition) (b : List ℕ) (c : Call) → Fits c → Names v c → StepBy v b c
+unfolding after
+step-by v b (ask w q) h e = record { stays = λ n. refl; opens = λ o. o }
+step-by v b (rewrite w t k d ws) h e =
+    subst (λ (x : Edition). StepBy x b (rewrite w t k d ws)) e
+    (record { stays = rewrite-stays w b t k d ws (h .0); opens = rewrite-opens w b t k d ws (h .0) })
 
 -- ---- the sequence
 
@@ -78,37 +75,37 @@ unfolding finalBytes
 all-rest b [] h i n o = refl
 all-rest b (c ∷ cs) h i n o = all-rest (after b c) cs (h .1) i (λ p. n (inr p)) o ∙ step b c (h .0) .rest i (λ p. n (inl p)) o
 
--- ---- where all calls name one edition
+-- what is held stays held
+held-on : {b q : List ℕ} {t k : ℕ} → Kept b q → Held b t k → Held q t k
+held-on {t = t} g h =
+    record { within = rw (g .last) (h .within); entry = rw (g .entries t (h .within)) (h .entry); below = rw (g .turns) (h .below) }
+
+all-noted : (b : List ℕ) (cs : List Call) → AllFit cs → (t k : ℕ) → Held b t k
+    → reading (finalBytes b cs) t k ≡ lastPut b cs t k (reading b t k)
+unfolding finalBytes lastPut
+all-noted b [] h t k l = refl
+all-noted b (c ∷ cs) h t k l =
+    let s = step b c (h .0) in
+    all-noted (after b c) cs (h .1) t k (held-on (s .keeps) l) ∙ ap (lastPut (after b c) cs t k) (s .notes t k l)
+
+-- ---- where one edition is named throughout
 
 module _ (v : Edition) where
-  step-of : (b : List ℕ) (c : Call) → Fits c → named c ≡ v → StepBy v b c
-  step-of b c h e = rw e at (step-by b c h)
-
   all-stays : (b : List ℕ) (cs : List Call) → AllFit cs → AllName v cs → (Opens v b → ⊥) → finalBytes b cs ≡ b
   unfolding finalBytes
   all-stays b [] h e n = refl
-  all-stays b (c ∷ cs) h e n = rw (step-of b c (h .0) (e .0) .stays n) (all-stays b cs (h .1) (e .1) n)
+  all-stays b (c ∷ cs) h e n = rw (step-by v b c (h .0) (e .0) .stays n) (all-stays b cs (h .1) (e .1) n)
 
   all-open : (b : List ℕ) (cs : List Call) → AllFit cs → AllName v cs → Opens v b → Opens v (finalBytes b cs)
   unfolding finalBytes
   all-open b [] h e o = o
-  all-open b (c ∷ cs) h e o = all-open (after b c) cs (h .1) (e .1) (step-of b c (h .0) (e .0) .keeps .opens o)
+  all-open b (c ∷ cs) h e o = all-open (after b c) cs (h .1) (e .1) (step-by v b c (h .0) (e .0) .opens o)
 
-  all-noted : (b : List ℕ) (cs : List Call) → AllFit cs → AllName v cs → (t k : ℕ) → Present v b t → k < revolutions b
-      → reading (finalBytes b cs) t k ≡ lastPut b cs t k (reading b t k)
-  unfolding finalBytes lastPut
-  all-noted b [] h e t k p l = refl
-  all-noted b (c ∷ cs) h e t k p l =
-      let s = step-of b c (h .0) (e .0) in
-      all-noted (after b c) cs (h .1) (e .1) t k (p .0, rw (s .keeps .table t (p .0)) (p .1)) (rw (s .keeps .turns) l)
-      ∙ ap (lastPut (after b c) cs t k) (s .notes t k p l)
-
-  one-edition : (b : List ℕ) (cs : List Call) → AllFit cs → AllName v cs → OneEdition v b cs (finalBytes b cs)
+  one-edition : (b : List ℕ) (cs : List Call) → AllFit cs → AllName v cs → OneEdition v b (finalBytes b cs)
   one-edition b cs h e =
       record {
         refusedStays = λ n. all-stays b cs h e (λ o. n (opens-exactly v b .1 o));
         staysOpen = λ z. opens-exactly v (finalBytes b cs) .1 (all-open b cs h e (opens-exactly v b .0 z));
-        reads = λ z. all-noted b cs h e;
       }
 
 pub every-sequence : EverySequence
@@ -122,6 +119,9 @@ every-sequence b cs h fit =
       calls = each-does b cs fit;
       size = g .size;
       rest = all-rest b cs fit;
+      reads = λ v e t k p l.
+          let within = opens-exactly v b .0 e .tracks t (p .0) (p .1) .to in
+          all-noted b cs fit t k (record { within = within; entry = p .1; below = l });
       readOnly = g .readOnly;
       sound = λ e. (λ z. y .1 (g .readOnly e ∙ x .0 z), λ z. x .1 (sym (g .readOnly e) ∙ y .0 z));
       readWritten = g .readWritten;

@@ -1,5 +1,5 @@
 -- One claim about every sequence of calls, the bytes that it leaves and the answers that it gives (S-3 to S-12), whatever editions its calls
--- name; and what it says besides where all of them name one (V-5, V-6).
+-- name; and what it says besides where one is named throughout (V-5, V-6).
 use Prim.Native.Nat.{ℕ, _<_}
 use mathlib.Core.Path.{_≡_}
 use mathlib.Core.Logic.{_↔_, _⊎_, _≢_}
@@ -56,28 +56,26 @@ SomePuts b (c ∷ cs) i = Puts b c i ⊎ SomePuts (after b c) cs i
 
 -- ---- one edition
 
--- V-5: the edition that a call names.
-abbrev pub named : Call → Edition
-named (ask v q) = v
-named (rewrite v t k d ws) = v
+-- V-6: a call that changes bytes names the edition v: a rewrite does; a question may name any, as it changes none.
+abbrev pub Names : Edition → Call → Type 0
+Names v (ask w q) = Unit {0}
+Names v (rewrite w t k d ws) = w ≡ v
 
--- V-6: every call of a list names the edition v.
+-- V-6: every call of a list does so.
 abbrev pub AllName : Edition → List Call → Type 0
 AllName v [] = Unit {0}
-AllName v (c ∷ cs) = (named c ≡ v) × AllName v cs
+AllName v (c ∷ cs) = Names v c × AllName v cs
 
--- S-6 to S-8, V-6: from the bytes b calls that all name the edition v leave the bytes q.
-pub record OneEdition (v : Edition) (b : List ℕ) (cs : List Call) (q : List ℕ) : Type 0 where
+-- S-6, S-7, V-6: from the bytes b calls whose rewrites all name the edition v leave the bytes q.
+pub record OneEdition (v : Edition) (b q : List ℕ) : Type 0 where
   -- an image that 1 to 11 refuse stays as it is
   pub refusedStays : openFault v b ≢ none → q ≡ b
   -- an openable image stays openable
   pub staysOpen : openFault v b ≡ none → openFault v q ≡ none
-  -- every revolution of every present track reads as its last accepted rewrite put it, or as before
-  pub reads : openFault v b ≡ none → (t k : ℕ) → Present v b t → k < revolutions b → reading q t k ≡ lastPut b cs t k (reading b t k)
 
 -- ---- the whole sequence
 
--- S-3 to S-11, V-6: from the bytes b the calls cs, whatever edition each names, leave the bytes q, and give the answers `said`.
+-- S-3 to S-11, S-22, V-6: from the bytes b the calls cs, whatever edition each names, leave the bytes q, and give the answers `said`.
 pub record Sequence (b : List ℕ) (cs : List Call) (q : List ℕ) (said : List Answer) : Type 0 where
   -- the bytes are those that the book makes of b
   pub bytes : q ≡ finalBytes b cs
@@ -88,6 +86,10 @@ pub record Sequence (b : List ℕ) (cs : List Call) (q : List ℕ) (said : List 
   -- no byte comes or goes, and none changes but those that accepted rewrites set, and the checksum's
   pub size : length q ≡ length b
   pub rest : (i : ℕ) → (SomePuts b cs i → ⊥) → (In i (extent checksumAt 4) → ⊥) → byteAt q i ≡ byteAt b i
+  -- of an image that opens by an edition, every revolution of every present track reads as its last accepted rewrite put it, or as before
+  pub reads :
+      (v : Edition) → openFault v b ≡ none → (t k : ℕ) → Present v b t → k < revolutions b
+      → reading q t k ≡ lastPut b cs t k (reading b t k)
   -- on a read-only image stored minus true sum modulo 2^32 is what it was
   pub readOnly : readWrite b ≡ false → distance q ≡ distance b
   -- so sound stays sound, and a damaged image never looks sound
@@ -95,7 +97,7 @@ pub record Sequence (b : List ℕ) (cs : List Call) (q : List ℕ) (said : List 
   -- on a read/write image the checksum bytes stay
   pub readWritten : readWrite b ≡ true → (i : ℕ) → In i (extent checksumAt 4) → byteAt q i ≡ byteAt b i
   -- and where one edition is named throughout, what holds by it
-  pub oneEdition : (v : Edition) → AllName v cs → OneEdition v b cs q
+  pub oneEdition : (v : Edition) → AllName v cs → OneEdition v b q
 
 -- S-12: the claim, for all first bytes and all lists of calls.
 abbrev pub EverySequence : Type 0

@@ -15,7 +15,7 @@ use Rattle.octets.specs.Numbers.{byteAt, le16At}
 use Rattle.octets.proofs.Numbers.{Agree, le-same}
 use Rattle.scp_fields.specs.declared.Edition.{Edition}
 use Rattle.scp_fields.specs.Editions.{slots}
-use Rattle.scp_fields.specs.Header.{checksumAt, footerSize, revolutions, readWrite, hasFooter, trackEntry, dataEnd}
+use Rattle.scp_fields.specs.Header.{checksumAt, footerSize, revolutions, endTrack, readWrite, hasFooter, trackEntry, dataEnd}
 use Rattle.scp_fields.specs.Footer.{footerAt, stringSlots, stringEntry}
 use Rattle.scp_fields.proofs.EditionLaws.{bit-same}
 use Rattle.scp_tracks.specs.Tracks.{revolutionAt, durationAt, countAt, fluxAt}
@@ -54,6 +54,9 @@ module _ (v : Edition) (b q : List ℕ) (t k d : ℕ) (ws : List ℕ) (a : Accep
 
   pub same-revolutions : revolutions q ≡ revolutions b
   same-revolutions = low 5 (omega arith)
+
+  pub same-endTrack : endTrack q ≡ endTrack b
+  same-endTrack = low 7 (omega arith)
 
   pub same-entry : (u : ℕ) → u < slots v → trackEntry q u ≡ trackEntry b u
   same-entry u l = le-same 4 q b (0x10 + 4 * u) (λ i h m. kept i (omega arith) (front (omega arith)))

@@ -40,8 +40,7 @@ impl Change {
         self.words.1 < self.words.0
     }
 
-    /// The call that puts the former duration and words back, after comments that say so, and after its edition unless replay takes that
-    /// anyway.
+    /// The call that puts the former duration and words back, after comments that say so, and after its edition.
     pub fn undo(&self, former: &[u8], from: &str, to: &str) -> Result<String, Failure> {
         let Change { edition, track, revolution, duration, words } = self;
         let mut text = format!("# takes back \"fluxproof patch\": track {track} revolution {revolution} of {from}, rewritten in {to}, ");
@@ -49,10 +48,7 @@ impl Change {
         if self.is_shorter() {
             text += &format!("# {}; its former words are kept here, but replay refuses to put them back\n", Change::SHORTER);
         }
-        if *edition != Edition::V1_6 {
-            text += &format!("edition {edition}\n");
-        }
-        text += &format!("rewrite {track} {revolution} {}", duration.0);
+        text += &format!("edition {edition}\nrewrite {track} {revolution} {}", duration.0);
         for word in former.chunks_exact(2) {
             let _ = write!(text, " {:02X}{:02X}", word[0], word[1]);
         }
