@@ -9,7 +9,7 @@ use native.Mathlib.Omega.{arith}
 use lib.Dec.{eqb}
 use borrow.Author.Tests.{eqb-true, eqb-false, eq-eqb}
 use Rattle.refusals.specs.declared.Refusal.{Refusal}
-use Rattle.refusals.specs.Refusals.{none, refusal, refuseIf, firstOf}
+use Rattle.refusals.specs.Refusals.{none, refusal, passes, refuseIf, firstOf}
 use Rattle.refusals.specs.Search.{anyFrom, firstFrom}
 
 -- ---- one of two tests
@@ -177,3 +177,21 @@ pub clear-from-all : (f : ℕ → Refusal) (i n : ℕ) → Clear (firstFrom f i 
 unfolding firstFrom
 clear-from-all f i zero = λ e. refl
 clear-from-all f i (suc n) = clear-first (f i) (firstFrom f (i + 1) n) (clear-from-all f (i + 1) n)
+
+-- ---- what is found
+
+-- what holds of each refusal of a chain or a search, and of none, holds of what is found
+module _ (P : Refusal → Type 0) where
+  pub holds-if : (t : Bool) (f rest : Refusal) → P f → P rest → P (refuseIf t f rest)
+  unfolding refuseIf
+  holds-if true f rest h k = h
+  holds-if false f rest h k = k
+
+  pub holds-first : (f rest : Refusal) → P f → P rest → P (firstOf f rest)
+  unfolding firstOf
+  holds-first f rest h k = holds-if (not (passes f)) f rest h k
+
+  pub holds-from : P none → (f : ℕ → Refusal) (i n : ℕ) → Each (λ j. P (f j)) i n → P (firstFrom f i n)
+  unfolding firstFrom
+  holds-from z f i zero h = z
+  holds-from z f i (suc n) h = holds-first (f i) (firstFrom f (i + 1) n) (each-first i n h) (holds-from z f (i + 1) n (each-rest i n h))

@@ -85,7 +85,7 @@ pub const HEADS_AT: usize = 10;
 
 pub const CHECKSUM_AT: usize = 12;
 
-// Where the table starts, and the byte sum with it, and the most entries that a table has: those of an opened image's.
+// Where the table starts, and with it the byte sum; how many entries the table of an opened image has.
 pub const TABLE_AT: usize = 16;
 
 pub const TRACK_SLOTS: usize = 168;

@@ -1,5 +1,5 @@
-// The listing of an image by edition 1.6, written to standard output. The image is opened once, when it is validated: what is valid is then read by its
-// fields, each by its one reading in `scp_fields`, `scp_tracks` and `flux`.
+// The listing of an image by edition 1.6, written to standard output. The image is opened once, when it is validated: what is valid is then
+// read by its fields, each by its one reading in `scp_fields`, `scp_tracks` and `flux`.
 ghost use mathlib.Core.Path.{_≡_};
 ghost use Rattle.scp_fields.specs.declared.Edition.the-variants.{V1_6};
 ghost use Rattle.scp.specs.Answers.{ofValidated, validateAnswer};

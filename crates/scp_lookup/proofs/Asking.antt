@@ -50,7 +50,7 @@ module _ (v : Edition) (b : List ℕ) where
       let held = list-at (heldEntry v b) trackSlots t (omega (arith, slots-most v)) in
       ap (λ (x : Opened). getD (x .table) t 0) (opened-whole e z) ∙ held ∙ held-in v b t h
 
-  -- an image that opens has the shortest table
+  -- an image that opens is at least as long as the shortest table
   pub open-least : openFault v b .number ≡ 0 → 680 ≤ length b
   open-least z = let least = opens v b z .least in omega (arith, slots-least v)
 

@@ -1,49 +1,51 @@
--- What holds of the number of each refusal in a chain or a search, and of 0 where there is none, holds of the number that is found.
-use Prim.Native.Nat.{ℕ, zero, suc, _+_}
+-- What holds of the number of each refusal that opening can find, and of 0, holds of the number that it finds.
+use Prim.Native.Nat.{ℕ}
 use mathlib.Core.List.{List}
-use mathlib.Core.Bool.{Bool, true, false, not}
 use Rattle.refusals.specs.declared.Refusal.{Refusal}
-use Rattle.refusals.specs.Refusals.{passes, refuseIf, firstOf}
-use Rattle.refusals.specs.Search.{firstFrom}
+use Rattle.refusals.proofs.Finding.{holds-if, holds-first, holds-from}
 use Rattle.scp_fields.specs.declared.Edition.{Edition}
 use Rattle.scp_fields.specs.Editions.{slots}
 use Rattle.scp_footer.specs.Footer.{footerFault}
 use Rattle.scp_header.specs.HeaderFault.{headFault}
 use Rattle.scp_tracks.specs.Tracks.{trackFaultAt, trackFault, tracksFault}
+use Rattle.scp_open.specs.Opening.{openFault}
+use Rattle.scp_lookup.specs.Questions.{trackThen, revolutionThen}
 
 module _ (P : ℕ → Type 0) where
-  pub number-if : (t : Bool) (f rest : Refusal) → P (f .number) → P (rest .number) → P (refuseIf t f rest .number)
-  unfolding refuseIf
-  number-if true f rest h k = h
-  number-if false f rest h k = k
-
-  pub number-first : (f rest : Refusal) → P (f .number) → P (rest .number) → P (firstOf f rest .number)
-  unfolding firstOf
-  number-first f rest h k = number-if (not (passes f)) f rest h k
-
-  pub number-from : P 0 → (f : ℕ → Refusal) (i n : ℕ) → ((j : ℕ) → P (f j .number)) → P (firstFrom f i n .number)
-  unfolding firstFrom
-  number-from z f i zero h = z
-  number-from z f i (suc n) h = number-first (f i) (firstFrom f (i + 1) n) (h i) (number-from z f (i + 1) n h)
-
-  -- ---- an image
+  -- of a refusal
+  abbrev pub Numbered : Refusal → Type 0
+  Numbered f = P (f .number)
 
   module _ (v : Edition) (b : List ℕ) where
     -- the header: 1 to 6, then the footer's
-    pub head-number : P 1 → P 2 → P 3 → P 4 → P 5 → P 6 → P (footerFault v b .number) → P (headFault v b .number)
+    head-number : P 1 → P 2 → P 3 → P 4 → P 5 → P 6 → Numbered (footerFault v b) → Numbered (headFault v b)
     unfolding headFault
     head-number p1 p2 p3 p4 p5 p6 rest =
-        number-if _ _ _ p1
-        (number-if _ _ _ p2
-        (number-if _ _ _ p3
-        (number-if _ _ _ p4
-        (number-if _ _ _ p5
-        (number-if _ _ _ p6
+        holds-if Numbered _ _ _ p1
+        (holds-if Numbered _ _ _ p2
+        (holds-if Numbered _ _ _ p3
+        (holds-if Numbered _ _ _ p4
+        (holds-if Numbered _ _ _ p5
+        (holds-if Numbered _ _ _ p6
         rest)))))
 
     -- the tracks: 9 to 11
-    pub tracks-number : P 0 → P 9 → P 10 → P 11 → P (tracksFault v b .number)
+    tracks-number : P 0 → P 9 → P 10 → P 11 → Numbered (tracksFault v b)
     unfolding trackFaultAt
     tracks-number z p9 p10 p11 =
-        number-from z (trackFault v b) 0 (slots v)
-        (λ t. number-if _ _ _ z (number-if _ _ _ p9 (number-if _ _ _ p10 (number-if _ _ _ p11 z))))
+        holds-from Numbered z (trackFault v b) 0 (slots v)
+        (λ t a c.
+        holds-if Numbered _ _ _ z
+        (holds-if Numbered _ _ _ p9 (holds-if Numbered _ _ _ p10 (holds-if Numbered _ _ _ p11 z))))
+
+    pub open-number : P 0 → P 1 → P 2 → P 3 → P 4 → P 5 → P 6 → Numbered (footerFault v b) → P 9 → P 10 → P 11 → Numbered (openFault v b)
+    unfolding openFault
+    open-number z p1 p2 p3 p4 p5 p6 foot p9 p10 p11 =
+        holds-first Numbered (headFault v b) (tracksFault v b) (head-number p1 p2 p3 p4 p5 p6 foot) (tracks-number z p9 p10 p11)
+
+    -- a call on a revolution: 13 and 14 besides, and what comes after
+    pub asked-number : Numbered (openFault v b) → P 13 → P 14 → (t k : ℕ) (rest : Refusal) → Numbered rest → Numbered (revolutionThen v b t k rest)
+    unfolding trackThen
+    asked-number first p13 p14 t k rest h =
+        holds-first Numbered (openFault v b) _ first
+        (holds-if Numbered _ _ _ p13 (holds-if Numbered _ _ _ p13 (holds-if Numbered _ _ _ p14 h)))

@@ -11,7 +11,8 @@ use lib.Seq.{length-take-le}
 use lib.Dec.{ltb}
 use borrow.Author.Tests.{eqb-true, ne-eqb, le-ltb}
 use Rattle.refusals.specs.declared.Refusal.{Refusal}
-use Rattle.refusals.specs.Refusals.{passes}
+use Rattle.refusals.specs.Refusals.{none, passes}
+use Rattle.refusals.proofs.Finding.{holds-if, holds-from}
 use Rattle.flux.specs.Coding.{wordsOf, badFluxSize, fluxLimit}
 use Rattle.flux.specs.Reading.{intervals, openTime}
 use Rattle.flux.specs.Answers.{placesRefused, wordsRefused, Filling, refuses, fills, inPlaces, reading}
@@ -30,7 +31,7 @@ use Rattle.scp_lookup.specs.declared.RevolutionAnswer.{RevolutionAnswer}
 use Rattle.scp_lookup.specs.declared.RevolutionAnswer.the-variants as revolution-answer
 use Rattle.scp_lookup.proofs.FoundLaws.{FoundData, revolution-there, revolution-found, found-data, found-refused, flux-within}
 use Rattle.scp.specs.Answers.{refused, numbers, revolutionAnswer, fluxOf, fluxPart, partOf, intervalsOf}
-use Rattle.scp_theorems.proofs.Numbers.{number-if, number-first, number-from, head-number, tracks-number}
+use Rattle.scp_theorems.proofs.Numbers.{open-number, asked-number}
 use Rattle.scp_theorems.specs.Theorems.{TrackNumber, FluxIsCounted, NeverWords}
 
 pub track-number : (t : ℕ) → TrackNumber t
@@ -70,33 +71,28 @@ flux-is-counted v b t k duration words offset e =
 
 -- ---- what refuses a revolution has a number up to 14
 
-module _ (v : Edition) (b : List ℕ) where
-  string-most : (j : ℕ) → stringFault v b j .number ≤ 8
-  unfolding stringFaultAt
-  string-most j = number-if (λ n. n ≤ 8) _ _ _ (omega arith) (number-if (λ n. n ≤ 8) _ _ _ (omega arith) (omega arith))
+abbrev Most : ℕ → Refusal → Type 0
+Most m f = f .number ≤ m
 
-  footer-most : footerFault v b .number ≤ 8
+module _ (v : Edition) (b : List ℕ) where
+  string-most : (j : ℕ) → Most 8 (stringFault v b j)
+  unfolding stringFaultAt
+  string-most j = holds-if (Most 8) _ _ _ (omega arith) (holds-if (Most 8) _ _ _ (omega arith) (omega arith))
+
+  footer-most : Most 8 (footerFault v b)
   unfolding footerFault
   footer-most =
-      number-if (λ n. n ≤ 8) _ _ _ (omega arith)
-      (number-if (λ n. n ≤ 8) _ _ _ (omega arith) (number-from (λ n. n ≤ 8) (omega arith) (stringFault v b) 0 stringSlots string-most))
+      holds-if (Most 8) _ _ _ (omega arith)
+      (holds-if (Most 8) _ _ _ (omega arith)
+      (holds-from (Most 8) (omega arith) (stringFault v b) 0 stringSlots (λ j a z. string-most j)))
 
-  open-most : openFault v b .number ≤ 11
-  unfolding openFault
-  open-most =
-      let foot = footer-most in
-      number-first (λ n. n ≤ 11) (headFault v b) (tracksFault v b) (head-number (λ n. n ≤ 11) v b (omega arith) (omega arith) (omega arith) (omega arith) (omega arith) (omega arith) (omega arith))
-      (tracks-number (λ n. n ≤ 11) v b (omega arith) (omega arith) (omega arith) (omega arith))
-
-  revolution-most : (t k : ℕ) → revolutionQuestion v b t k .number ≤ 14
-  unfolding trackThen
+  revolution-most : (t k : ℕ) → Most 14 (revolutionQuestion v b t k)
   revolution-most t k =
-      let first = open-most in
-      number-first (λ n. n ≤ 14) (openFault v b) _ (omega arith)
-      (number-if (λ n. n ≤ 14) _ _ _ (omega arith)
-      (number-if (λ n. n ≤ 14) _ _ _ (omega arith)
-      (number-if (λ n. n ≤ 14) _ _ _ (omega arith)
-      (omega arith))))
+      let foot = footer-most in
+      let opened =
+      open-number (λ n. n ≤ 14) v b (omega arith) (omega arith) (omega arith) (omega arith) (omega arith) (omega arith) (omega arith)
+      (omega arith) (omega arith) (omega arith) (omega arith) in
+      asked-number (λ n. n ≤ 14) v b opened (omega arith) (omega arith) t k none (omega arith)
 
 -- ---- reading its intervals is never refused with 17
 

@@ -9,6 +9,7 @@ use lib.IntN.{pos}
 use lib.Ieee.{binary64, ofInt, toUnsigned, round, le}
 use lib.Ieee.Exact.{HasValue}
 use Rattle.octets.specs.Numbers.{Octets}
+use Rattle.refusals.specs.declared.Refusal.{Refusal}
 use Rattle.refusals.specs.Refusals.{none}
 use Rattle.flux.specs.Answers.{wordsRefused, refuses}
 use Rattle.scp_fields.specs.declared.Edition.{Edition}
@@ -17,6 +18,7 @@ use Rattle.scp_fields.specs.Editions.{slots, lastTrack, tableEnd}
 use Rattle.scp_fields.specs.Header.{revolutions, readWrite, hasFooter, storedSum, trueSum, dataEnd}
 use Rattle.scp_tracks.specs.Tracks.{cylinderOf, headOf, durationAt}
 use Rattle.scp_open.specs.Opening.{openFault}
+use Rattle.scp_lookup.specs.Questions.{revolutionThen}
 use Rattle.scp_open.specs.Validity.{Opens}
 use Rattle.scp_speed.specs.Speeds.{rpmOf, speedOf, longest, shortest, speedsOf}
 use Rattle.scp_speed.specs.declared.Speed.the-variants.{Rpm}
@@ -32,12 +34,18 @@ pub record EditionNumbers : Type 0 where
   pub old : (slots V1_4 ≡ 166) × (lastTrack V1_4 ≡ 165) × (tableEnd V1_4 ≡ 680)
   pub new : (slots V1_6 ≡ 168) × (lastTrack V1_6 ≡ 167) × (tableEnd V1_6 ≡ 688)
 
--- By 1.4 an image has no footer, whatever its FLAGS say: its tracks and flux may lie up to its end, it is never refused with 7 or 8, and the
--- question for its footer answers that there is none (V-3).
+-- A number that is neither 7 nor 8 (V-3).
+abbrev pub Neither : ℕ → Type 0
+Neither n = (n ≢ 7) × (n ≢ 8)
+
+-- By 1.4 an image has no footer, whatever its FLAGS say: its tracks and flux may lie up to its end, no call gives 7 or 8, neither opening nor
+-- validating nor one on a revolution, unless what comes after that does, and the question for its footer answers that there is none (V-3).
 pub record NoFooter (b : List ℕ) : Type 0 where
   pub flag : hasFooter V1_4 b ≡ false
   pub end : dataEnd V1_4 b ≡ length b
-  pub never : (openFault V1_4 b .number ≢ 7) × (openFault V1_4 b .number ≢ 8)
+  pub opening : Neither (openFault V1_4 b .number)
+  pub validating : Neither (validateFault V1_4 b .number)
+  pub asking : (t k : ℕ) (rest : Refusal) → Neither (rest .number) → Neither (revolutionThen V1_4 b t k rest .number)
   pub answer : openFault V1_4 b ≡ none → footerAnswer V1_4 b ≡ answers.none
 
 -- So it is of every image (V-3).
@@ -46,7 +54,8 @@ NeverFooter = (b : List ℕ) → NoFooter b
 
 -- ---- validating
 
--- The image obeys all that validating by an edition asks: it opens, and its checksum is the true sum if it is read-only, and 0 if it is read/write (RO-5).
+-- The image obeys all that validating by an edition asks: it opens, and its checksum is the true sum if it is read-only, and 0 if it is
+-- read/write (RO-5).
 pub record Valid (v : Edition) (b : List ℕ) : Type 0 where
   pub opens : Opens v b
   pub readOnly : readWrite b ≡ false → storedSum b ≡ trueSum b

@@ -191,8 +191,8 @@ fn flux_past(image: &[u8], e: u32, k: u32, room: u64) -> bool
     room < (distance as u64) + 2 * (words as u64)
 }
 
-// Whether the flux of a revolution of the track data header at e ends past the data, by the room from e to their end. Two revolutions are
-// tested at a time.
+// Whether the flux of a revolution of the track data header at e ends past the data. Two revolutions are tested at a time, against the bytes
+// from e to the end of the data.
 fn bad_flux(image: &[u8], edition: Edition, e: u32) -> bool
     requires { ⌜ e + headerSize (now image) ≤ dataEnd edition (now image) ⌝ }
     ensures { λ r. ⌜ r ≡ badFlux edition (now (image .entry)) e ⌝ }

@@ -50,7 +50,8 @@ pub scp-rewrite-spec : {M : Type 1} → statement M
 scp-rewrite-spec =
     tie.close
     (tie.spec
-    edition-of-requires rewrite-requires
+    edition-of-requires
+    rewrite-requires
     enum-told
     enum-known-found
     code-requires

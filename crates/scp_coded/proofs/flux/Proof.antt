@@ -58,7 +58,8 @@ pub flux-spec : {M : Type 1} → statement M
 flux-spec =
     tie.close
     (tie.spec
-    edition-of-requires revolution-requires
+    edition-of-requires
+    revolution-requires
     enum-known-answer
     flux-of-requires
     give-bytes-requires

@@ -78,7 +78,8 @@ pub footer-spec : {M : Type 1} → statement M
 footer-spec =
     tie.close
     (tie.spec
-    edition-of-requires footer-requires
+    edition-of-requires
+    footer-requires
     enum-known-found
     footer-numbers-requires
     slice-aggregate-give

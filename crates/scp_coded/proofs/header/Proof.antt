@@ -57,7 +57,8 @@ pub header-spec : {M : Type 1} → statement M
 header-spec =
     tie.close
     (tie.spec
-    edition-of-requires header-requires
+    edition-of-requires
+    header-requires
     enum-known-found
     header-numbers-requires
     slice-aggregate-give

@@ -57,7 +57,8 @@ pub revolution-spec : {M : Type 1} → statement M
 revolution-spec =
     tie.close
     (tie.spec
-    edition-of-requires revolution-requires
+    edition-of-requires
+    revolution-requires
     enum-known-found
     revolution-numbers-requires
     slice-aggregate-give

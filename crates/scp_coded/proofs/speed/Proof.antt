@@ -51,7 +51,8 @@ pub speed-spec : {M : Type 1} → statement M
 speed-spec =
     tie.close
     (tie.spec
-    edition-of-requires speed-requires
+    edition-of-requires
+    speed-requires
     enum-known-found
     give-speed-requires
     enum-known-found-2

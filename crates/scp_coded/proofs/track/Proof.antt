@@ -57,7 +57,8 @@ pub track-spec : {M : Type 1} → statement M
 track-spec =
     tie.close
     (tie.spec
-    edition-of-requires track-requires
+    edition-of-requires
+    track-requires
     enum-known-found
     track-numbers-requires
     slice-aggregate-give

@@ -88,7 +88,8 @@ pub track-speed-spec : {M : Type 1} → statement M
 track-speed-spec =
     tie.close
     (tie.spec
-    edition-of-requires track-speed-requires
+    edition-of-requires
+    track-speed-requires
     enum-known-found
     whole-requires
     slice-aggregate-give-floats

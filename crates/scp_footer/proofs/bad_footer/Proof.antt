@@ -72,4 +72,5 @@ bad-footer-spec =
     byte-requires-4
     add-byte-8
     byte-requires-5
-    footer-least-requires returns)
+    footer-least-requires
+    returns)

@@ -44,7 +44,8 @@ pub bad-string-of-spec : {M : Type 1} → statement M
 bad-string-of-spec =
     tie.close
     (tie.spec
-    table-end-requires returns
+    table-end-requires
+    returns
     data-end-requires
     add-if2
     add-if2-2

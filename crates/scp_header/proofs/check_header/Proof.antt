@@ -164,7 +164,8 @@ pub check-header-spec : {M : Type 1} → statement M
 check-header-spec =
     tie.close
     (tie.spec
-    table-end-requires refuse-requires
+    table-end-requires
+    refuse-requires
     returns
     refuse-requires-2
     returns-2

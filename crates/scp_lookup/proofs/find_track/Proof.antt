@@ -71,7 +71,8 @@ find-track-spec =
     (tie.spec
     open-requires
     returns
-    slots-requires refuse-requires
+    slots-requires
+    refuse-requires
     returns-2
     mul-entry
     array-read-entry

@@ -62,7 +62,8 @@ read-table-spec =
     (tie.spec
     Inv-loop
     μ-loop
-    slots-requires loop-holds
+    slots-requires
+    loop-holds
     cast-track-entry
     track-entry-requires
     mul-table

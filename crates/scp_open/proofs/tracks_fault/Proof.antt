@@ -80,7 +80,8 @@ tracks-fault-spec =
     (tie.spec
     Inv-loop
     μ-loop
-    slots-requires loop-holds
+    slots-requires
+    loop-holds
     mul-track-fault
     element-copy-out-track-fault
     cast-track-fault

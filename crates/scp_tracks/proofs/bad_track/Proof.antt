@@ -33,7 +33,8 @@ pub bad-track-spec : {M : Type 1} → statement M
 bad-track-spec =
     tie.close
     (tie.spec
-    table-end-requires returns
+    table-end-requires
+    returns
     data-end-requires
     header-size-requires
     add-if2

@@ -144,7 +144,11 @@ call-row-spec =
     mul-cap-2
     shared-slice-read-cap-2
     cap-requires-2
-    add-edition-of mul-edition-of shared-slice-read-edition-of edition-of-requires add-duration
+    add-edition-of
+    mul-edition-of
+    shared-slice-read-edition-of
+    edition-of-requires
+    add-duration
     mul-duration
     shared-slice-read-duration
     cast-duration
