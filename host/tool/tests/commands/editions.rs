@@ -333,17 +333,18 @@ fn a_patch_by_revision_1_4_is_taken_back_without_naming_it_again() {
 }
 
 #[test]
-fn only_revision_1_4_is_named_by_an_undo_file() {
+fn an_undo_file_names_its_edition() {
     let bench = bench();
     bench.put("short.bin", &[1, 2]);
-    for (edition, lines) in
-        [("1.6", ["# takes back ", "rewrite 0 0 "].as_slice()), ("1.4", &["# takes back ", "edition 1.4", "rewrite 0 0 "])]
-    {
+    for edition in Edition::ALL {
         bench.passes(&format!("patch a.scp {edition}.scp 0 0 --duration 5 --words words.bin --undo {edition}.txt --edition {edition}"));
         let undo = String::from_utf8(bench.get(&format!("{edition}.txt"))).expect("UTF-8");
-        assert!(undo.lines().count() == lines.len() && undo.lines().zip(lines).all(|(line, start)| line.starts_with(*start)), "{undo}");
-        assert_eq!(bench.get(&format!("{edition}.scp")), bench.get("1.6.scp"));
+        let lines: Vec<&str> = undo.lines().collect();
+        assert!(lines.len() == 3 && lines[1] == format!("edition {edition}") && lines[2].starts_with("rewrite 0 0 "), "{undo}");
+        bench.passes(&format!("replay {edition}.scp {edition}.txt --out back.scp --force --edition {}", edition.other()));
+        assert_eq!(bench.get("back.scp"), bench.get("a.scp"));
     }
+    assert_eq!(bench.get("1.4.scp"), bench.get("1.6.scp"));
     bench.passes("patch old.scp short.scp 0 0 --duration 5 --words short.bin --undo short.txt --edition 1.4");
     let undo = String::from_utf8(bench.get("short.txt")).expect("UTF-8");
     let lines: Vec<&str> = undo.lines().collect();

@@ -88,7 +88,9 @@ fn many_revolutions_are_patched_and_taken_back() {
             bench.passes(&format!("patch b.scp p.scp {place} --duration 77 --words new.bin --undo {undo} --force"));
             assert!(bench.get("p.scp") == put(&[77, 0, 0, 0], &bench.get("new.bin")), "{count} {place}");
             assert_eq!(bench.passes(&format!("read p.scp {place}")), "4660\n65543\n");
-            assert!(bench.passes(&format!("replay p.scp {undo} --out p.scp --in-place")).starts_with(&format!("2: rewrite {place} ")));
+            assert!(bench
+                .passes(&format!("replay p.scp {undo} --out p.scp --in-place"))
+                .starts_with(&format!("2: edition 1.6\n3: rewrite {place} ")));
             assert!(bench.get("p.scp") == first, "{count} {place}");
             let calls = format!("rewrite {place} 9 0007\nrevolution {place}\nflux {place}\ntrack 167\nvalidate\n");
             bench.put("calls.txt", calls.as_bytes());

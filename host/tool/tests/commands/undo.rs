@@ -16,6 +16,7 @@ fn the_undo_file_is_a_call_of_replay() {
     let bench = Bench::with_words();
     bench.passes(&format!("patch a.scp b.scp {TAIL} --undo undo.txt"));
     let text = "# takes back \"fluxproof patch\": track 0 revolution 0 of a.scp, rewritten in b.scp, duration 8000000 -> 5, words 4 -> 4\n\
+                edition 1.6\n\
                 rewrite 0 0 8000000 00A0 0000 0001 00F0\n";
     assert_eq!(String::from_utf8(bench.get("undo.txt")).expect("UTF-8"), text);
     assert_eq!(bench.names(), ["a.scp", "b.scp", "undo.txt", "words.bin"]);
@@ -52,7 +53,7 @@ fn patches_are_taken_back_byte_for_byte() {
                 bench.passes(&format!("patch i.scp o.scp {patch}"));
                 assert!(bench.get("o.scp") != first && bench.get("i.scp") == first);
                 let out = bench.passes("replay o.scp undo.txt --out back.scp");
-                assert!(out.starts_with("2: rewrite ") && out.contains(": ok\n"), "{out}");
+                assert!(out.starts_with("2: edition 1.6\n3: rewrite ") && out.contains(": ok\n"), "{out}");
                 assert!(bench.get("back.scp") == first, "flags {flags} track {track}");
                 std::fs::remove_file(bench.path("undo.txt")).expect("the undo file removed");
                 bench.passes(&format!("patch i.scp i.scp {patch} --in-place"));
@@ -76,10 +77,10 @@ fn a_shorter_revolution_is_said_to_be_for_good() {
     let undo = String::from_utf8(bench.get("undo.txt")).expect("UTF-8");
     let lines: Vec<&str> = undo.lines().collect();
     assert_eq!(lines[1], format!("# {SHORTER}; its former words are kept here, but replay refuses to put them back"));
-    assert_eq!(lines[2..], ["rewrite 0 0 8000000 00A0 0000 0001 00F0"]);
+    assert_eq!(lines[2..], ["edition 1.6", "rewrite 0 0 8000000 00A0 0000 0001 00F0"]);
     assert!(bench
         .refuses("replay b.scp undo.txt")
-        .starts_with("3: rewrite 0 0 8000000 (8 bytes): refused 17 Words: 4 words, where the revolution has "));
+        .starts_with("3: edition 1.6\n4: rewrite 0 0 8000000 (8 bytes): refused 17 Words: 4 words, where the revolution has "));
     let out = bench.passes(&format!("patch a.scp a.scp {tail} --in-place"));
     assert!(out.contains(&format!("words 4 -> 1\n{SHORTER}; its former words were not kept\n")), "{out}");
     assert!(!bench.passes(&format!("patch a.scp c.scp {tail}")).contains("shorter"));
