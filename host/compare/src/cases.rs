@@ -39,9 +39,8 @@ fn image_case(random: &mut Random) -> Case<Question> {
             asked.push(rewrite(&bytes, track, revolution, random));
         }
     }
-    let mut by_both = |asked: Asked| Edition::ALL.map(|edition| asked.clone().by(some_number(edition, random)));
-    let questions = asked.into_iter().flat_map(&mut by_both).collect();
-    Case { bytes, questions }
+    let by_both = |asked: Asked| Edition::ALL.map(|edition| asked.clone().by(some_number(edition, random)));
+    Case { bytes, questions: asked.into_iter().flat_map(by_both).collect() }
 }
 
 /// The questions about an image as a whole, with as many places as needed.
