@@ -61,7 +61,7 @@ fn revolutions(random: &mut Random) -> u8 {
 fn span(edition: Edition, random: &mut Random) -> (u8, u8) {
     let last = random.pick(&[edition, Edition::V1_4]).tracks() as u8 - 1;
     let start = random.pick(&[0, 0, 0, 1, 80, last - 1, last]);
-    let end = (start + random.pick(&[0, 1, 3, 7, 20, last])).min(last);
+    let end = start.saturating_add(random.pick(&[0, 1, 3, 7, 20, last])).min(last);
     (start, end)
 }
 

@@ -45,7 +45,7 @@ pub fn compare(bytes: &[u8], calls: &[u64], words: &[u8], places: usize) -> Resu
     Ok(agreed)
 }
 
-/// The row that one call by itself answers. A number above 32 bits counts as the largest of them, which is no edition but 1.6, either.
+/// The row that one call by itself answers. A number above 32 bits counts as the largest of them; as an edition both are 1.6.
 fn one_by_one(image: &mut [u8], call: &[u64], words: &[u8]) -> [u64; ANSWER] {
     let bounded = |number: u64| number.min(u64::from(u32::MAX)) as u32;
     let (track, revolution, edition) = (bounded(call[1]), bounded(call[2]), bounded(call[EDITION]));
