@@ -32,20 +32,20 @@ module _ (p : ℕ → Bool) {i n : ℕ} {r : Bool} (inv : anyFrom p i (n - i) �
   unfolding anyFrom
   any-end h = sym (sym inv ∙ ap (anyFrom p i) (left-none i n h))
 
--- the same for a loop that looks at two indices in a turn, and at the one that may be left by itself
+-- the same for a loop that looks at two indices in a turn, where x and y stand for what it finds, and at the one that may be left by itself
 module _ (p : ℕ → Bool) (i : ℕ) {n : ℕ} {r : Bool} (inv : anyFrom p i (n - i) ≡ r) where
-  pub two-here : i + 1 < n → p i || p (i + 1) ≡ true → true ≡ r
-  two-here h t = by (p i) refl
+  pub two-here : {x y : Bool} → x ≡ p i → y ≡ p (i + 1) → i + 1 < n → (x || y) ≡ true → true ≡ r
+  two-here {x} {y} e f h t = by x refl
     where
-      by : (v : Bool) → p i ≡ v → true ≡ r
-      by true e = any-here p inv (omega arith) e
-      by false e = any-here p (any-next p inv (omega arith) e) h (sym (ap (λ (v : Bool). v || p (i + 1)) e) ∙ t)
+      by : (v : Bool) → x ≡ v → true ≡ r
+      by true q = any-here p inv (omega arith) (sym e ∙ q)
+      by false q = any-here p (any-next p inv (omega arith) (sym e ∙ q)) h (sym f ∙ sym (ap (λ (v : Bool). v || y) q) ∙ t)
 
-  pub two-next : i + 1 < n → p i || p (i + 1) ≡ false → anyFrom p (i + 2) (n - (i + 2)) ≡ r
-  two-next h t =
-      let both = neither (p i) (p (i + 1)) t in
+  pub two-next : {x y : Bool} → x ≡ p i → y ≡ p (i + 1) → i + 1 < n → (x || y) ≡ false → anyFrom p (i + 2) (n - (i + 2)) ≡ r
+  two-next {x} {y} e f h t =
+      let both = neither x y t in
       let two : i + 2 ≡ i + 1 + 1 = omega arith in
-      rw two (any-next p (any-next p inv (omega arith) (both .0)) h (both .1))
+      rw two (any-next p (any-next p inv (omega arith) (sym e ∙ both .0)) h (sym f ∙ both .1))
 
   pub last-here : i < n → n ≤ i + 1 → p i ≡ r
   last-here h l = by (p i) refl

@@ -14,7 +14,7 @@ refuse-requires c κs = search needs
 
 returns : tie.Need-returns
 unfolding footerFault
-returns c = refuse-here _ _ _ (cc) (cc)
+returns c = refuse-here _ _ _ (sym (c .before .before .bad-footer .ensures) ∙ c .before .if1 .taken) (c .refuse .ensures)
 
 has-footer-requires : tie.Need-has-footer-requires
 has-footer-requires c κs = search needs
@@ -24,14 +24,20 @@ strings-fault-requires c κs = search needs
 
 returns-2 : tie.Need-returns-2
 unfolding footerFault
-returns-2 c = refuse-next _ _ _ (cc) (refuse-next _ _ _ (turned-off (sym (c .before .before .has-footer .ensures) ∙ c .before .if2 .taken)) (cc))
+returns-2 c =
+    let asked = c .before .before in
+    refuse-next _ _ _ (sym (asked .before .before .bad-footer .ensures) ∙ asked .before .if1 .left)
+    (refuse-next _ _ _ (turned-off (sym (asked .has-footer .ensures) ∙ c .before .if2 .taken)) (c .strings-fault .ensures))
 
 pass-requires : tie.Need-pass-requires
 pass-requires c κs = search needs
 
 returns-3 : tie.Need-returns-3
 unfolding footerFault
-returns-3 c = refuse-next _ _ _ (cc) (refuse-here _ _ _ (turned-on (sym (c .before .before .has-footer .ensures) ∙ c .before .if2 .left)) (cc))
+returns-3 c =
+    let asked = c .before .before in
+    refuse-next _ _ _ (sym (asked .before .before .bad-footer .ensures) ∙ asked .before .if1 .left)
+    (refuse-here _ _ _ (turned-on (sym (asked .has-footer .ensures) ∙ c .before .if2 .left)) (c .pass .ensures))
 
 pub footer-fault-spec : {M : Type 1} → statement M
 footer-fault-spec =

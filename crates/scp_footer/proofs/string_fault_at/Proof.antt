@@ -1,7 +1,8 @@
 -- Each return meets the tests before it, in the definition's order.
+use mathlib.Core.Path.{_≡_, sym, ap, _∙_}
 use borrow.Author.Needs.{needs}
 use borrow.Author.Tests.{eq-eqb, ne-eqb}
-use Rattle.scp_footer.specs.Footer.{stringFaultAt}
+use Rattle.scp_footer.specs.Footer.{badStringOf, badString, stringFaultAt}
 use Rattle.refusals.proofs.Chain.{refuse-here, refuse-next}
 use Rattle.scp_footer.proofs.string_fault_at.Statement.{statement}
 use Rattle.scp_footer.proofs.string_fault_at.Tie as tie
@@ -11,7 +12,7 @@ pass-requires c κs = search needs
 
 returns : tie.Need-returns
 unfolding stringFaultAt
-returns c = refuse-here _ _ _ (search (eq-eqb, needs)) (cc)
+returns c = refuse-here _ _ _ (eq-eqb _ _ (c .before .if1 .taken)) (c .pass .ensures)
 
 number16-requires : tie.Need-number16-requires
 number16-requires c κs = search needs
@@ -19,19 +20,32 @@ number16-requires c κs = search needs
 bad-string-of-requires : tie.Need-bad-string-of-requires
 bad-string-of-requires c κs = search needs
 
+-- what is said of the string is said of the length that stands at its offset
+judged : (c : tie.After-bad-string-of) → let a = c .before .before .before .before .args in
+    c .bad-string-of .result ≡ badString (a .edition) (a .image .now) (a .o)
+judged c =
+    let a = c .before .before .before .before .args in
+    c .bad-string-of .ensures ∙ ap (badStringOf (a .edition) (a .image .now) (a .o)) (c .before .number16 .ensures .0)
+
 refuse-requires : tie.Need-refuse-requires
 refuse-requires c κs = search needs
 
 returns-2 : tie.Need-returns-2
 unfolding stringFaultAt
-returns-2 c = refuse-next _ _ _ (search (ne-eqb, needs)) (refuse-here _ _ _ (cc) (cc))
+returns-2 c =
+    let string = c .before .before in
+    refuse-next _ _ _ (ne-eqb _ _ (string .before .before .if1 .left))
+    (refuse-here _ _ _ (sym (judged string) ∙ c .before .if2 .taken) (c .refuse .ensures))
 
 pass-requires-2 : tie.Need-pass-requires-2
 pass-requires-2 c κs = search needs
 
 returns-3 : tie.Need-returns-3
 unfolding stringFaultAt
-returns-3 c = refuse-next _ _ _ (search (ne-eqb, needs)) (refuse-next _ _ _ (cc) (cc))
+returns-3 c =
+    let string = c .before .before in
+    refuse-next _ _ _ (ne-eqb _ _ (string .before .before .if1 .left))
+    (refuse-next _ _ _ (sym (judged string) ∙ c .before .if2 .left) (c .pass2 .ensures))
 
 pub string-fault-at-spec : {M : Type 1} → statement M
 string-fault-at-spec =

@@ -57,8 +57,10 @@ flux-past-requires-2 c κs = search needs
 
 returns : tie.Need-returns Inv-loop μ-loop
 returns c =
-    let at-loop = c .before .before .before .before in
-    two-here _ _ (at-loop .loop .inv .3) (search needs) (cc) ∙ ends (at-loop .before)
+    let turn = c .before in
+    let at-loop = turn .before .before .before in
+    two-here _ _ (at-loop .loop .inv .3) (turn .before .flux-past .ensures) (turn .flux-past2 .ensures) (search needs) (c .if1 .taken)
+    ∙ ends (at-loop .before)
 
 add-k : tie.Need-add-k Inv-loop μ-loop
 add-k c = search needs
@@ -67,12 +69,14 @@ loop-less : tie.Need-loop-less Inv-loop μ-loop
 loop-less c = search needs
 
 loop-again : tie.Need-loop-again Inv-loop μ-loop
-loop-again c = (
-  search needs,
-  search needs,
-  search needs,
-  two-next _ _ (c .before .before .before .before .loop .inv .3) (search needs) (cc),
-)
+loop-again c =
+    let turn = c .before in
+    let inv = turn .before .before .before .loop .inv in (
+      search needs,
+      search needs,
+      search needs,
+      two-next _ _ (inv .3) (turn .before .flux-past .ensures) (turn .flux-past2 .ensures) (search needs) (c .if1 .left),
+    )
 
 flux-past-requires-3 : tie.Need-flux-past-requires-3 Inv-loop μ-loop
 flux-past-requires-3 c κs = search needs

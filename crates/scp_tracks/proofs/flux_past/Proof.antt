@@ -1,6 +1,9 @@
 -- The flux reaches past the room from the header's first byte exactly if it ends past the room's end.
-use Prim.Native.Nat.{_*_}
-use Rattle.scp_tracks.specs.Tracks.{countAt, distanceAt}
+use Prim.Native.Nat.{ℕ, _+_, _*_}
+use mathlib.Core.Path.{_≡_, ap, _∙_}
+use lib.Dec.{ltb}
+use Rattle.octets.specs.Numbers.{le32At}
+use Rattle.scp_tracks.specs.Tracks.{revolutionAt, countAt, distanceAt}
 use Rattle.scp_tracks.proofs.RevolutionLaws.{room-past}
 use borrow.Author.Needs.{needs}
 use Rattle.scp_tracks.proofs.flux_past.Statement.{statement}
@@ -36,12 +39,19 @@ mul-result c = search needs
 add-result : tie.Need-add-result
 add-result c = search needs
 
+-- a field of the revolution's record, at the offset that was worked out
+field : (c : tie.After-record-offset) (at : ℕ) → let a = c .before .before .args in
+    le32At (a .image .now) (a .e + c .record-offset .result + at) ≡ le32At (a .image .now) (revolutionAt (a .e) (a .k) + at)
+field c at = let a = c .before .before .args in ap (λ (x : ℕ). le32At (a .image .now) (a .e + x + at)) (c .record-offset .ensures)
+
 returns : tie.Need-returns
 returns c =
-    let args = c .before .before .before .before .args in
-    let b = args .image .now in
-    let past = room-past (args .e) (args .room) (distanceAt b (args .e) (args .k)) (2 * countAt b (args .e) (args .k)) in
-    cc
+    let at = c .before .before in
+    let a = at .before .before .args in
+    let count = countAt (a .image .now) (a .e) (a .k) in
+    ap (λ (w : ℕ). ltb (a .room) (c .inner322 .result + 2 * w)) (c .before .inner32 .ensures ∙ field at 4)
+    ∙ ap (λ (d : ℕ). ltb (a .room) (d + 2 * count)) (c .inner322 .ensures ∙ field at 8)
+    ∙ room-past (a .e) (a .room) (distanceAt (a .image .now) (a .e) (a .k)) (2 * count)
 
 pub flux-past-spec : {M : Type 1} → statement M
 flux-past-spec =
