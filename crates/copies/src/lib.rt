@@ -1,7 +1,8 @@
-// Copying a lent list into a lent buffer, for each width, or zeros: all of it, or nothing where it does not fit.
+// Copying a lent list into a lent buffer, for each width, or zeros: all of it, or nothing where it does not fit; and a part of lent bytes.
 ghost use mathlib.Core.Path.{_≡_};
+ghost use Prim.Native.Nat.{_+_};
 ghost use lib.ListN.{replicate};
-ghost use Rattle.copies.specs.Copying.{fitsAt, copiedAt};
+ghost use Rattle.copies.specs.Copying.{fitsAt, copiedAt, part, partStart};
 
 // Copies bytes to `at`, and says whether they fit.
 pub fn bytes(out: &mut [u8], at: usize, values: &[u8]) -> bool
@@ -80,4 +81,20 @@ pub fn zeros(out: &mut [u8], at: usize, count: usize) -> bool
         k += 1;
     }
     true
+}
+
+// n bytes from a start on, as that part of the bytes, cut where they end; the empty part at 0 where the start is past the end.
+pub fn part_of(whole: &[u8], start: usize, n: usize) -> &[u8]
+    ensures { λ r. ⌜ now r ≡ part (now (whole .entry)) start n ⌝ }
+    ensures { λ r. ⌜ r .ptr ≡ (whole .entry .ptr .0, partStart (now (whole .entry)) start + whole .entry .ptr .1) ⌝ }
+{
+    let size = whole.len();
+    if size < start {
+        return &whole[..0];
+    }
+    if size - start <= n {
+        return &whole[start..];
+    }
+    let end = start + n;
+    &whole[start..end]
 }

@@ -3,6 +3,7 @@ use Prim.Native.Nat.{ℕ}
 use mathlib.Core.Path.{_≡_, refl, sym, ap, _∙_}
 use mathlib.Core.List.{List, [], _∷_}
 use mathlib.Core.Bool.{Bool, true, false, cond}
+use native.Mathlib.Omega.{arith}
 use lib.Dec.{eqb}
 use lib.IntN.{ℤ}
 use lib.Ieee.{Float}
@@ -16,13 +17,15 @@ use Rattle.refusals.proofs.Chain.{first-here, first-next}
 use Rattle.scp_open.specs.Opening.{openFault}
 use Rattle.scp_tracks.specs.Revolutions.{dataOf}
 use Rattle.scp_tracks.specs.declared.RevolutionData.{RevolutionData}
-use Rattle.scp_lookup.specs.Questions.{revolutionQuestion}
-use Rattle.scp_lookup.specs.Lookups.{foundRevolution}
+use Rattle.scp_lookup.specs.Questions.{trackQuestion, revolutionQuestion}
+use Rattle.scp_lookup.specs.Lookups.{foundTrack, foundRevolution, trackOn, fluxOf, partOf, startOf}
+use Rattle.scp_lookup.specs.declared.Entry.the-variants as entry
+use Rattle.scp_lookup.specs.declared.RevolutionAnswer.{RevolutionAnswer}
 use Rattle.scp_lookup.specs.declared.RevolutionAnswer.the-variants as revolution-answer
 use Rattle.scp_speed.specs.Speeds.{rpmOf, speedOf}
 use Rattle.scp_speed.specs.declared.Speed.the-variants as speed
 use Rattle.scp.specs.Validating.{wantedSum, badSum, validateFault}
-use Rattle.scp.specs.Answers.{Answer, refused, none, numbers, footer, speeds, unless, ofSpeedOnly, ofRevolution, revolutionAnswer}
+use Rattle.scp.specs.Answers.{Answer, refused, none, numbers, footer, speeds, bytes, unless, ofTrack, trackValues, trackAnswer, ofSpeedOnly, ofRevolution, revolutionValues, revolutionAnswer, fluxAnswer}
 
 -- ---- an answer, unless it is refused
 
@@ -59,11 +62,6 @@ pub footer-same : {o o′ p p′ q q′ r r′ s s′ t t′ : ℕ} {x x′ y y�
     → footer (o ∷ p ∷ q ∷ r ∷ s ∷ t ∷ []) (x ∷ y ∷ []) vs ≡ footer (o′ ∷ p′ ∷ q′ ∷ r′ ∷ s′ ∷ t′ ∷ []) (x′ ∷ y′ ∷ []) vs
 footer-same vs eo ep eq er es et ex ey = cc
 
--- a track whose numbers are equal
-pub track-same : {o o′ p p′ q q′ r r′ : ℕ} → o ≡ o′ → p ≡ p′ → q ≡ q′ → r ≡ r′
-    → numbers (o ∷ p ∷ q ∷ r ∷ []) ≡ numbers (o′ ∷ p′ ∷ q′ ∷ r′ ∷ [])
-track-same eo ep eq er = cc
-
 -- the answer of a speed
 speed-by : (x : Bool) (d : ℕ) → ofSpeedOnly (cond x speed.None (speed.Rpm (rpmOf d))) ≡ cond x none (speeds (rpmOf d ∷ []))
 speed-by true d = refl
@@ -77,15 +75,72 @@ speed-is d = speed-by (eqb d 0) d
 pub speeds-same : {x x′ y y′ : Float} → x ≡ x′ → y ≡ y′ → speeds (x ∷ y ∷ []) ≡ speeds (x′ ∷ y′ ∷ [])
 speeds-same ex ey = cc
 
--- ---- a revolution
+-- ---- a track and a revolution
 
-answer-by : (x : Bool) (d : RevolutionData) (f : Refusal)
-    → ofRevolution (cond x (revolution-answer.Found d) (revolution-answer.Refused f))
-    ≡ cond x (numbers (d .duration ∷ d .words ∷ d .offset .0 ∷ [])) (refused (f .number) (f .position))
-answer-by true d f = refl
-answer-by false d f = refl
+-- the number and the values of a track that q finds or refuses
+module _ (b : List ℕ) (t : ℕ) (q : Refusal) where
+  track-by : (x : Bool) → ofTrack (trackOn b t (cond x (entry.At (trackEntry b t)) (entry.Refused q)))
+      ≡ cond x (trackValues b t) (refused (q .number) (q .position))
+  track-by true = refl
+  track-by false = refl
 
--- the number and the values of what is found
-pub answer-is : (v : Edition) (b : List ℕ) (t k : ℕ) → ofRevolution (foundRevolution v b t k) ≡ revolutionAnswer v b t k
-unfolding foundRevolution revolutionAnswer
-answer-is v b t k = answer-by (passes (revolutionQuestion v b t k)) (dataOf b (trackEntry b t) k) (revolutionQuestion v b t k)
+  pub track-told : ofTrack (trackOn b t (refusals.unless q (entry.At (trackEntry b t)) entry.Refused)) ≡ unless q (trackValues b t)
+  track-told = track-by (passes q)
+
+pub track-answer-is : (v : Edition) (b : List ℕ) (t : ℕ) → ofTrack (trackOn b t (foundTrack v b t)) ≡ trackAnswer v b t
+unfolding foundTrack trackAnswer
+track-answer-is v b t = track-told b t (trackQuestion v b t)
+
+-- of a revolution that q finds or refuses, and of its flux
+module _ (b : List ℕ) (t k : ℕ) (q : Refusal) where
+  -- the revolution as q has it
+  abbrev told : Bool → RevolutionAnswer
+  told x = cond x (revolution-answer.Found (dataOf b (trackEntry b t) k)) (revolution-answer.Refused q)
+
+  -- the answer a as q has it
+  abbrev answered : Answer → Bool → Answer
+  answered a x = cond x a (refused (q .number) (q .position))
+
+  revolution-by : (x : Bool) → ofRevolution (told x) ≡ answered (revolutionValues b t k) x
+  revolution-by true = refl
+  revolution-by false = refl
+
+  pub revolution-told : ofRevolution (told (passes q)) ≡ unless q (revolutionValues b t k)
+  revolution-told = revolution-by (passes q)
+
+  abbrev fluxBy : Bool → Answer
+  fluxBy x = answered (bytes (startOf (told x)) (partOf b (told x))) x
+
+  found-by : (x : Bool) (d : RevolutionData) → ofRevolution (revolution-answer.Found d) ≡ answered (revolutionValues b t k) x
+      → bytes (d .offset .0) (fluxOf b d) ≡ fluxBy x
+  found-by true d e = cc
+  found-by false d e = let z : _≡_ {A = ℕ} 0 1 = cc in absurd (omega arith)
+
+  refused-by : (x : Bool) (r : Refusal) → ofRevolution (revolution-answer.Refused r) ≡ answered (revolutionValues b t k) x
+      → refused (r .number) (r .position) ≡ fluxBy x
+  refused-by true r e = let z : _≡_ {A = ℕ} 0 1 = cc in absurd (omega arith)
+  refused-by false r e = e
+
+  -- the flux that is answered, by what asking for the revolution gave
+  pub flux-told : (d : RevolutionData) → ofRevolution (revolution-answer.Found d) ≡ unless q (revolutionValues b t k)
+      → bytes (d .offset .0) (fluxOf b d) ≡ fluxBy (passes q)
+  flux-told = found-by (passes q)
+
+  pub flux-untold : (r : Refusal) → ofRevolution (revolution-answer.Refused r) ≡ unless q (revolutionValues b t k)
+      → refused (r .number) (r .position) ≡ fluxBy (passes q)
+  flux-untold = refused-by (passes q)
+
+module _ (v : Edition) (b : List ℕ) (t k : ℕ) where
+  pub answer-is : ofRevolution (foundRevolution v b t k) ≡ revolutionAnswer v b t k
+  unfolding foundRevolution revolutionAnswer
+  answer-is = revolution-told b t k (revolutionQuestion v b t k)
+
+  pub flux-found : (d : RevolutionData) → ofRevolution (revolution-answer.Found d) ≡ revolutionAnswer v b t k
+      → bytes (d .offset .0) (fluxOf b d) ≡ fluxAnswer v b t k
+  unfolding foundRevolution revolutionAnswer
+  flux-found = flux-told b t k (revolutionQuestion v b t k)
+
+  pub flux-refused : (r : Refusal) → ofRevolution (revolution-answer.Refused r) ≡ revolutionAnswer v b t k
+      → refused (r .number) (r .position) ≡ fluxAnswer v b t k
+  unfolding foundRevolution revolutionAnswer
+  flux-refused = flux-untold b t k (revolutionQuestion v b t k)

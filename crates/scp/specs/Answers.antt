@@ -1,8 +1,7 @@
 -- What each call on an image answers, by the edition that it names: a definition gives the number and the values of each case (A-2).
-use Prim.Native.Nat.{ℕ, _+_, _*_}
+use Prim.Native.Nat.{ℕ, _+_}
 use mathlib.Core.List.{List, [], _∷_}
 use mathlib.Core.Bool.{cond}
-use lib.ListN.{take, drop}
 use lib.Dec.{eqb}
 use lib.IntN.{ℤ}
 use lib.Ieee.{Float}
@@ -14,17 +13,15 @@ use Rattle.scp_fields.specs.declared.Edition.{Edition}
 use Rattle.scp_fields.specs.Header.{version, disk, revolutions, startTrack, endTrack, flags, hasFooter, width, heads, storedSum, trackEntry}
 use Rattle.scp_fields.specs.Footer.{footerAt, stringEntry}
 use Rattle.scp_open.specs.declared.Header.{Header}
-use Rattle.scp_tracks.specs.declared.RevolutionData.{RevolutionData}
 use Rattle.scp_speed.specs.declared.Speed.{Speed}
 use Rattle.scp_speed.specs.declared.Speed.the-variants as speed
 use Rattle.scp_tracks.specs.Tracks.{cylinderOf, headOf, durationAt, countAt, fluxAt}
 use Rattle.scp_open.specs.Opening.{openFault}
-use Rattle.scp_tracks.specs.Revolutions.{dataOf}
 use Rattle.scp_speed.specs.Speeds.{rpmOf, speedsOf}
 use Rattle.scp_speed.specs.declared.SpeedRange.{SpeedRange}
 use Rattle.scp_speed.specs.declared.SpeedRange.the-variants as range
 use Rattle.scp_lookup.specs.Questions.{trackQuestion, revolutionQuestion}
-use Rattle.scp_lookup.specs.Lookups.{foundRevolution}
+use Rattle.scp_lookup.specs.Lookups.{foundRevolution, fluxOf, partOf, startOf}
 use Rattle.scp.specs.Validating.{validateFault}
 use Rattle.scp.specs.declared.Validated.{Validated}
 use Rattle.scp.specs.declared.Validated.the-variants as validated
@@ -33,8 +30,8 @@ use Rattle.scp.specs.declared.HeaderAnswer.the-variants as header-answer
 use Rattle.scp.specs.declared.FooterData.{FooterData}
 use Rattle.scp.specs.declared.FooterAnswer.{FooterAnswer}
 use Rattle.scp.specs.declared.FooterAnswer.the-variants as footer-answer
-use Rattle.scp.specs.declared.TrackAnswer.{TrackAnswer}
-use Rattle.scp.specs.declared.TrackAnswer.the-variants as track-answer
+use Rattle.scp_lookup.specs.declared.TrackAnswer.{TrackAnswer}
+use Rattle.scp_lookup.specs.declared.TrackAnswer.the-variants as track-answer
 use Rattle.scp_lookup.specs.declared.RevolutionAnswer.{RevolutionAnswer}
 use Rattle.scp_lookup.specs.declared.RevolutionAnswer.the-variants as revolution-answer
 use Rattle.scp.specs.declared.SpeedAnswer.{SpeedAnswer}
@@ -120,9 +117,13 @@ abbrev pub ofTrack : TrackAnswer → Answer
 ofTrack (track-answer.Found d) = numbers (d .cylinder ∷ d .head ∷ d .offset .0 ∷ d .revolutions ∷ [])
 ofTrack (track-answer.Refused r) = refused (r .number) (r .position)
 
--- T-5, C-7: cylinder, head, file offset of its header, revolutions.
+-- T-5, C-7: the values of track t: cylinder, head, file offset of its header, revolutions.
+abbrev pub trackValues : List ℕ → ℕ → Answer
+trackValues b t = numbers (cylinderOf t ∷ headOf t ∷ trackEntry b t ∷ revolutions b ∷ [])
+
+-- T-5: these, or what refuses the track.
 unfoldable pub trackAnswer : Edition → List ℕ → ℕ → Answer
-trackAnswer v b t = unless (trackQuestion v b t) (numbers (cylinderOf t ∷ headOf t ∷ trackEntry b t ∷ revolutions b ∷ []))
+trackAnswer v b t = unless (trackQuestion v b t) (trackValues b t)
 
 -- ---- a revolution
 
@@ -131,27 +132,15 @@ abbrev pub ofRevolution : RevolutionAnswer → Answer
 ofRevolution (revolution-answer.Found d) = numbers (d .duration ∷ d .words ∷ d .offset .0 ∷ [])
 ofRevolution (revolution-answer.Refused r) = refused (r .number) (r .position)
 
--- T-6, C-8: duration, count of words, file offset of its flux.
+-- T-6, C-8: the values of revolution k of track t: duration, count of words, file offset of its flux.
+abbrev pub revolutionValues : List ℕ → ℕ → ℕ → Answer
+revolutionValues b t k = numbers (durationAt b (trackEntry b t) k ∷ countAt b (trackEntry b t) k ∷ fluxAt b (trackEntry b t) k ∷ [])
+
+-- T-6: these, or what refuses the revolution.
 unfoldable pub revolutionAnswer : Edition → List ℕ → ℕ → ℕ → Answer
-revolutionAnswer v b t k =
-    unless (revolutionQuestion v b t k)
-    (numbers (durationAt b (trackEntry b t) k ∷ countAt b (trackEntry b t) k ∷ fluxAt b (trackEntry b t) k ∷ []))
+revolutionAnswer v b t k = unless (revolutionQuestion v b t k) (revolutionValues b t k)
 
 -- ---- its flux
-
--- T-7: the part of the image that is a revolution's flux.
-abbrev pub fluxOf : List ℕ → RevolutionData → List ℕ
-fluxOf b d = take (2 * d .words) (drop (d .offset .0) b)
-
--- T-7: the flux as that part of the caller's image; the empty part at offset 0 where the revolution is refused.
-abbrev pub partOf : List ℕ → RevolutionAnswer → List ℕ
-partOf b (revolution-answer.Found d) = fluxOf b d
-partOf b (revolution-answer.Refused r) = []
-
--- T-7: the file offset at which the part starts, 0 where the revolution is refused.
-abbrev pub startOf : RevolutionAnswer → ℕ
-startOf (revolution-answer.Found d) = d .offset .0
-startOf (revolution-answer.Refused r) = 0
 
 -- T-7: the part that is the flux of revolution k of track t.
 abbrev pub fluxPart : Edition → List ℕ → ℕ → ℕ → List ℕ

@@ -1,24 +1,23 @@
 // Validating a SuperCard Pro image, and the questions that can be asked of it, each by the edition that the call names. Every call opens the
 // image anew and takes nobody's word.
 ghost use mathlib.Core.Path.{_≡_};
-ghost use Prim.Native.Nat.{_+_, _*_, _≤_};
+ghost use Prim.Native.Nat.{_+_, _≤_};
 ghost use lib.ListN.{length};
 ghost use Rattle.scp_fields.specs.Editions.{tableAt};
 ghost use Rattle.scp_fields.specs.Header.{footerSize};
 ghost use Rattle.scp.specs.Validating.{wantedSum};
 ghost use Rattle.flux.specs.Answers.{ofFilled, answerOf, bufferAfter};
-ghost use Rattle.scp.specs.Answers.{ofValidated, validateAnswer, ofHeader, headerAnswer, ofFooterData, footerValues, ofFooter, footerAnswer, ofTrack, trackAnswer, ofRevolution, revolutionAnswer, fluxOf, fluxPart, fluxStart, ofSpeed, speedAnswer, ofTrackSpeed, trackSpeedAnswer, revolutionReading};
+ghost use Rattle.scp.specs.Answers.{ofValidated, validateAnswer, ofHeader, headerAnswer, ofFooterData, footerValues, ofFooter, footerAnswer, ofTrack, trackAnswer, ofRevolution, revolutionAnswer, fluxPart, fluxStart, ofSpeed, speedAnswer, ofTrackSpeed, trackSpeedAnswer, revolutionReading};
 use flux::Filled;
 use refusals::Refusal;
 use scp_fields::Edition;
 use scp_lookup::Entry;
 use scp_lookup::RevolutionAnswer;
+use scp_lookup::TrackAnswer;
 use scp_open::Header;
 use scp_speed::Speed;
 use scp_speed::SpeedRange;
 use scp_speed::TrackSpeeds;
-use scp_tracks::FileOffset;
-use scp_tracks::RevolutionData;
 
 // Whether an image is valid.
 pub enum Validated {
@@ -51,19 +50,6 @@ pub struct FooterData {
 pub enum FooterAnswer {
     Found(FooterData),
     None,
-    Refused(Refusal),
-}
-
-// A track: its cylinder and head, where its header starts, and how many revolutions it has.
-pub struct TrackData {
-    pub cylinder: u32,
-    pub head: u32,
-    pub offset: FileOffset,
-    pub revolutions: u32,
-}
-
-pub enum TrackAnswer {
-    Found(TrackData),
     Refused(Refusal),
 }
 
@@ -167,15 +153,7 @@ pub fn track(image: &[u8], edition: Edition, track: u32) -> TrackAnswer
     ensures { λ r. ⌜ ofTrack r ≡ trackAnswer edition (now (image .entry)) track ⌝ }
 {
     let found = scp_lookup::find_track(image, edition, track);
-    match found {
-        Entry::At(entry) => TrackAnswer::Found(TrackData {
-            cylinder: scp_tracks::cylinder(track),
-            head: scp_tracks::head(track),
-            offset: FileOffset(entry as u64),
-            revolutions: scp_fields::revolutions(image) as u32,
-        }),
-        Entry::Refused(r) => TrackAnswer::Refused(r),
-    }
+    scp_lookup::track_on(image, track, found)
 }
 
 // A revolution: duration, words, file offset of its flux.
@@ -185,28 +163,13 @@ pub fn revolution(image: &[u8], edition: Edition, track: u32, revolution: u32) -
     scp_lookup::find_revolution(image, edition, track, revolution)
 }
 
-// The flux of a revolution that lies in the image.
-fn part_of(image: &[u8], numbers: RevolutionData) -> &[u8]
-    requires { ⌜ numbers .offset .0 + 2 * numbers .words ≤ length (now image) ⌝ }
-    ensures { λ r. ⌜ now r ≡ fluxOf (now (image .entry)) numbers ⌝ }
-    ensures { λ r. ⌜ r .ptr ≡ (image .entry .ptr .0, numbers .offset .0 + image .entry .ptr .1) ⌝ }
-{
-    let offset = numbers.offset;
-    let start = offset.0 as usize;
-    let end = start + 2 * (numbers.words as usize);
-    &image[start..end]
-}
-
 // The flux of a revolution, as that part of the caller's image; the empty part at offset 0 where the revolution is refused.
 pub fn flux(image: &[u8], edition: Edition, track: u32, revolution: u32) -> &[u8]
     ensures { λ r. ⌜ now r ≡ fluxPart edition (now (image .entry)) track revolution ⌝ }
     ensures { λ r. ⌜ r .ptr ≡ (image .entry .ptr .0, fluxStart edition (now (image .entry)) track revolution + image .entry .ptr .1) ⌝ }
 {
     let found = scp_lookup::find_revolution(image, edition, track, revolution);
-    match found {
-        RevolutionAnswer::Found(data) => part_of(image, data),
-        RevolutionAnswer::Refused(_) => &image[..0],
-    }
+    scp_lookup::flux_on(image, found)
 }
 
 // All intervals of a revolution at one go, at the start of the times.
@@ -223,7 +186,7 @@ pub fn revolution_intervals(
     let found = scp_lookup::find_revolution(image, edition, track, revolution);
     match found {
         RevolutionAnswer::Found(data) => {
-            let part = part_of(image, data);
+            let part = scp_lookup::flux_of(image, data);
             flux::intervals(part, times)
         }
         RevolutionAnswer::Refused(r) => Filled::Refused(r),

@@ -13,7 +13,7 @@ use Rattle.scp_fields.specs.Header.{hasFooter, trackEntry}
 use Rattle.scp_fields.proofs.EditionLaws.{slots-most}
 use Rattle.scp_fields.specs.Footer.{stringSlots}
 use Rattle.scp_footer.specs.Footer.{stringFaultAt, stringFault, footerFault}
-use Rattle.scp_header.specs.HeaderFault.{headFault}
+use Rattle.scp_header.specs.HeaderFault.{headerFault, headFault}
 use Rattle.scp_tracks.specs.Tracks.{durationAt, trackFaultAt, trackFault, tracksFault}
 use Rattle.scp_open.specs.Opening.{openFault}
 use Rattle.scp_speed.specs.Speeds.{longest, speedsOf}
@@ -43,18 +43,22 @@ module _ (v : Edition) (b : List ℕ) where
       (small-if _ _ 0 (omega arith)
       (small-from (stringFault v b) 0 stringSlots (λ j a z. string-small j (omega arith))))
 
-  head-small : Small (headFault v b)
-  unfolding headFault
-  head-small =
+  pub header-small : Small (headerFault v b)
+  unfolding headerFault
+  header-small =
       small-if _ _ 1 (omega arith)
       (small-if _ _ 2 (omega arith)
       (small-if _ _ 3 (omega arith)
       (small-if _ _ 4 (omega arith)
       (small-if _ _ 5 (omega arith)
       (small-if _ _ 6 (omega arith)
-      footer-small)))))
+      small-none)))))
 
-  track-small : (t : ℕ) → t < 256 → Small (trackFault v b t)
+  head-small : Small (headFault v b)
+  unfolding headFault
+  head-small = small-first (headerFault v b) (footerFault v b) header-small footer-small
+
+  pub track-small : (t : ℕ) → t < 256 → Small (trackFault v b t)
   unfolding trackFaultAt
   track-small t h =
       small-if _ _ 0 (omega arith)
@@ -92,7 +96,7 @@ whole-either : (t : Bool) (a c : Answer) → Whole a → Whole c → Whole (cond
 whole-either true a c h k = h
 whole-either false a c h k = k
 
-whole-unless : (f : Refusal) (a : Answer) → Small f → Whole a → Whole (unless f a)
+pub whole-unless : (f : Refusal) (a : Answer) → Small f → Whole a → Whole (unless f a)
 whole-unless f a h k = whole-either (passes f) a _ k (exact (f .number) (f .position) (h .0) (h .1))
 
 range-whole : (t : Bool) (s : TrackSpeeds) → Whole (ofSpeedRange (cond t range.None (range.Speeds s)))

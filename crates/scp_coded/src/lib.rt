@@ -9,10 +9,10 @@ ghost use Rattle.scp_boundary.specs.Boundary.{numbersOf, floatsOf};
 use scp::FooterAnswer;
 use scp::HeaderAnswer;
 use scp::SpeedAnswer;
-use scp::TrackAnswer;
 use scp::TrackSpeedAnswer;
 use scp::Validated;
 use scp_lookup::RevolutionAnswer;
+use scp_lookup::TrackAnswer;
 
 // Validates the image: refusals 1 to 12.
 pub fn validate(image: &[u8], edition: u32) -> u64
@@ -102,7 +102,7 @@ pub fn flux(image: &[u8], edition: u32, track: u32, revolution: u32, out: &mut [
     let named = scp_fields::edition_of(edition as u64);
     let answer = scp::revolution(image, named, track, revolution);
     match answer {
-        RevolutionAnswer::Found(d) => boundary::give_bytes(out, scp_values::flux_of(image, d)),
+        RevolutionAnswer::Found(d) => boundary::give_bytes(out, scp_lookup::flux_of(image, d)),
         RevolutionAnswer::Refused(r) => boundary::code(r),
     }
 }

@@ -4,13 +4,11 @@ use mathlib.Core.Path.{_≡_}
 use mathlib.Core.List.{List}
 use mathlib.Core.Bool.{true, false, or-true}
 use lib.ListN.{length}
-use borrow.Author.Tests.{lt-ltb, le-ltb, ltb-false}
+use borrow.Author.Tests.{lt-ltb, le-ltb}
 use Rattle.scp_fields.specs.declared.Edition.{Edition}
 use Rattle.scp_fields.specs.Editions.{tableEnd}
 use Rattle.scp_fields.specs.Header.{sizeLimit}
 use Rattle.scp_header.specs.HeaderTests.{badSize}
-use Rattle.scp_header.specs.HeaderFault.{headFault}
-use Rattle.refusals.proofs.Finding.{neither, not-refused}
 
 module _ (v : Edition) (b : List ℕ) where
   pub small : length b < tableEnd v → badSize v b ≡ true
@@ -24,8 +22,3 @@ module _ (v : Edition) (b : List ℕ) where
   pub sized : tableEnd v ≤ length b → length b ≤ sizeLimit → badSize v b ≡ false
   unfolding badSize
   sized h k = simp (le-ltb _ _ h, le-ltb _ _ k)
-
-  -- an image whose header is not refused has the whole table
-  pub head-least : headFault v b .number ≡ 0 → tableEnd v ≤ length b
-  unfolding badSize headFault
-  head-least h = ltb-false (length b) (tableEnd v) (neither _ _ (not-refused (badSize v b) 0 0 _ h .0) .0)

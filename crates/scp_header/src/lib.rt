@@ -3,7 +3,7 @@ ghost use mathlib.Core.Path.{_≡_};
 ghost use Prim.Native.Nat.{_≤_};
 ghost use lib.ListN.{length};
 ghost use Rattle.scp_header.specs.HeaderTests.{badSign, badWidth, badRevolutions, badSpan, badHeads};
-ghost use Rattle.scp_header.specs.HeaderFault.{headFault};
+ghost use Rattle.scp_header.specs.HeaderFault.{headerFault, headFault};
 use refusals::Refusal;
 use scp_fields::Edition;
 
@@ -45,9 +45,9 @@ fn bad_heads(image: &[u8]) -> bool
     2 < scp_fields::heads(image)
 }
 
-// What refuses the header or the footer: the first of refusals 1 to 8, or number 0.
-pub fn check_header(image: &[u8], edition: Edition) -> Refusal
-    ensures { λ r. ⌜ r ≡ headFault edition (now (image .entry)) ⌝ }
+// What refuses the header: the first of refusals 1 to 6, or number 0. It looks at the header and the length alone.
+pub fn header_fault(image: &[u8], edition: Edition) -> Refusal
+    ensures { λ r. ⌜ r ≡ headerFault edition (now (image .entry)) ⌝ }
 {
     let n = image.len();
     if n < scp_fields::table_end(edition) {
@@ -70,6 +70,17 @@ pub fn check_header(image: &[u8], edition: Edition) -> Refusal
     }
     if bad_heads(image) {
         return refusals::refuse(refusals::HEADS, 0);
+    }
+    refusals::pass()
+}
+
+// What refuses the header or the footer: the first of refusals 1 to 8, or number 0.
+pub fn check_header(image: &[u8], edition: Edition) -> Refusal
+    ensures { λ r. ⌜ r ≡ headFault edition (now (image .entry)) ⌝ }
+{
+    let first = header_fault(image, edition);
+    if first.number != 0 {
+        return first;
     }
     scp_footer::footer_fault(image, edition)
 }

@@ -9,7 +9,6 @@ use flux::Step;
 use refusals::Refusal;
 use scp::Validated;
 use scp_fields::Edition;
-use scp_tracks::RevolutionData;
 
 // The most bytes that the listing program takes.
 pub const INPUT_LIMIT: usize = 65_536;
@@ -33,23 +32,6 @@ fn print_refusal(r: Refusal) {
     field(b"refused ", r.number as u64);
     field(b" at ", r.position);
     newline();
-}
-
-// The flux of a revolution, or nothing where it does not lie in the image, as it does in every valid one.
-fn flux_of(image: &[u8], data: RevolutionData) -> &[u8] {
-    let offset = data.offset;
-    let at = offset.0;
-    let size = image.len() as u64;
-    let bytes = 2 * (data.words as u64);
-    if size < at {
-        return &image[..0];
-    }
-    if size - at < bytes {
-        return &image[..0];
-    }
-    let start = at as usize;
-    let end = (at + bytes) as usize;
-    &image[start..end]
 }
 
 // How many intervals flux has, and its open time.
@@ -100,7 +82,7 @@ fn print_revolution(image: &[u8], t: u32, entry: u32, k: u32) {
     field(b" turn ", k as u64);
     field(b" ticks ", data.duration as u64);
     field(b" words ", data.words as u64);
-    print_flux(flux_of(image, data));
+    print_flux(scp_lookup::flux_of(image, data));
     newline();
 }
 

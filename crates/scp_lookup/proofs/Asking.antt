@@ -67,7 +67,7 @@ module _ (v : Edition) (b : List ℕ) (t : ℕ) where
   unfolding trackThen
   then-open rest e n = first-here (openFault v b) _ e n
 
-  opens-then : (rest : Refusal) → openFault v b .number ≡ 0
+  pub opens-then : (rest : Refusal) → openFault v b .number ≡ 0
       → refuseIf (leb (slots v) t) (refusal 13 0) (refuseIf (eqb (trackEntry b t) 0) (refusal 13 0) rest) ≡ trackThen v b t rest
   unfolding trackThen
   opens-then rest z = first-next (openFault v b) _ refl z refl

@@ -2,25 +2,31 @@
 use Prim.Native.Nat.{ℕ, _+_, _*_, _<_, _≤_}
 use mathlib.Core.Path.{_≡_, refl, sym, ap, _∙_}
 use mathlib.Core.List.{List}
-use mathlib.Core.Bool.{Bool, true, false, cond}
+use mathlib.Core.Bool.{Bool, true, false, not, cond}
+use native.Mathlib.Decide.{ℕ-discrete}
 use native.Mathlib.Omega.{arith}
 use lib.ListN.{length}
 use lib.Dec.{eqb, leb, ltb}
-use borrow.Author.Tests.{eq-eqb, ne-eqb, eqb-true, eqb-false, lt-leb, leb-false, ltb-true}
+use borrow.Author.Tests.{eq-eqb, ne-eqb, eqb-true, eqb-false, le-leb, lt-leb, leb-false}
 use Rattle.refusals.specs.declared.Refusal.{Refusal}
-use Rattle.refusals.specs.Refusals.{none, refusal, passes, refuseIf}
+use Rattle.refusals.specs.Refusals.{none, refusal, passes, refuseIf, firstOf, unless}
 use Rattle.scp_fields.specs.declared.Edition.{Edition}
 use Rattle.scp_fields.specs.Editions.{slots}
 use Rattle.scp_fields.specs.Header.{revolutions, trackEntry}
+use Rattle.refusals.proofs.Answers.{unless-refused, unless-found}
+use Rattle.refusals.proofs.Chain.{first-here, first-next}
 use Rattle.refusals.proofs.Finding.{is-refusal, not-refused, alike-end, alike-refuse, alike-first}
+use Rattle.scp_tracks.specs.Tracks.{cylinderOf, headOf}
 use Rattle.scp_tracks.specs.Revolutions.{dataOf, revolutionOf, ofPresence, revolutionFault}
 use Rattle.scp_tracks.specs.declared.Revolution.the-variants.{Absent, Present}
 use Rattle.scp_tracks.specs.declared.RevolutionData.{RevolutionData}
 use Rattle.scp_open.specs.Opening.{openFault}
 use Rattle.scp_open.proofs.Opens.{opens}
 use Rattle.scp_lookup.specs.Questions.{trackThen, trackQuestion, revolutionQuestion}
-use Rattle.scp_lookup.specs.Lookups.{foundTrack, foundRevolution}
+use Rattle.scp_lookup.specs.Lookups.{foundTrack, foundRevolution, trackOn, revolutionOn, startOf, startIn}
 use Rattle.scp_lookup.specs.declared.Entry.the-variants as entry
+use Rattle.scp_lookup.specs.declared.TrackAnswer.the-variants as track-answer
+use Rattle.scp_lookup.specs.declared.RevolutionAnswer.{RevolutionAnswer}
 use Rattle.scp_lookup.specs.declared.RevolutionAnswer.the-variants as revolution-answer
 use Rattle.scp_lookup.proofs.Asking.{TrackThere, then-rest, there, track-passes}
 
@@ -66,6 +72,11 @@ module _ (v : Edition) (b : List ℕ) (t : ℕ) where
           let e : f ≡ trackQuestion v b t = cc in
           record { refuses = e; number = λ z. eqb-false (trackQuestion v b t .number) 0 q (ap (λ (x : Refusal). x .number) (sym e) ∙ z) }
 
+-- the numbers of the track of an entry
+pub track-on-is : (b : List ℕ) (t : ℕ) {e c h n : ℕ} → c ≡ cylinderOf t → h ≡ headOf t → n ≡ revolutions b
+    → track-answer.Found (record { cylinder = c; head = h; offset = record { 0 = e }; revolutions = n }) ≡ trackOn b t (entry.At e)
+track-on-is b t ec eh en = cc
+
 -- a track that is refused is refused whatever comes after
 refused-alike : (v : Edition) (b : List ℕ) (t : ℕ) (rest : Refusal) → (trackQuestion v b t .number ≡ 0 → ⊥) → trackQuestion v b t ≡ trackThen v b t rest
 unfolding trackThen
@@ -73,39 +84,87 @@ refused-alike v b t rest =
     alike-first (openFault v b) _ _
     (alike-refuse (leb (slots v) t) (refusal 13 0) _ _ (alike-refuse (eqb (trackEntry b t) 0) (refusal 13 0) none rest (alike-end rest)))
 
+-- a call on a track is the question for it, then the rest
+pub then-first : (v : Edition) (b : List ℕ) (t : ℕ) (rest : Refusal) → trackThen v b t rest ≡ firstOf (trackQuestion v b t) rest
+then-first v b t rest =
+    elim (ℕ-discrete (trackQuestion v b t .number) 0) [
+      | yes z ↦ sym (then-rest v b t rest (there v b t none z)) ∙ first-next (trackQuestion v b t) rest refl z refl
+      | no n ↦ sym (refused-alike v b t rest n) ∙ first-here (trackQuestion v b t) rest refl n
+    ]
+
 -- ---- a revolution
 
 -- a revolution read from its track header
 module _ (b : List ℕ) (e k : ℕ) where
-  pub record PresentData (d : RevolutionData) : Type 0 where
-    pub below : k < revolutions b
-    pub same : d ≡ dataOf b e k
+  -- absent: its number is that of the case
+  pub absent-on : {f : Refusal} → ofPresence Absent ≡ revolutionFault b k → f ≡ ofPresence Absent
+      → revolution-answer.Refused f ≡ revolutionOn b k (entry.At e)
+  absent-on l g = unless-refused (revolutionFault b k) _ revolution-answer.Refused (g ∙ l) (is-refusal 13 g)
 
-  pub present-is : {d : RevolutionData} → Present d ≡ revolutionOf b e k → PresentData d
+  -- present: its numbers are those of the record
+  pub present-on : {d : RevolutionData} → Present d ≡ revolutionOf b e k → ofPresence (Present d) ≡ revolutionFault b k
+      → revolution-answer.Found d ≡ revolutionOn b k (entry.At e)
   unfolding revolutionOf
-  present-is {d} h = go (ltb k (revolutions b)) refl h
+  present-on {d} h l =
+      unless-found (revolutionFault b k) _ revolution-answer.Refused (ap (λ (x : Refusal). x .number) (sym l)) (ap revolution-answer.Found same)
     where
-      go : (x : Bool) → ltb k (revolutions b) ≡ x → Present d ≡ cond x (Present (dataOf b e k)) Absent → PresentData d
-      go true q h = record { below = ltb-true k (revolutions b) q; same = cc }
-      go false q h = let z : _≡_ {A = ℕ} 0 1 = cc in absurd (omega arith)
+      by : (x : Bool) → Present d ≡ cond x (Present (dataOf b e k)) Absent → d ≡ dataOf b e k
+      by true h = cc
+      by false h = let z : _≡_ {A = ℕ} 0 1 = cc in absurd (omega arith)
+
+      same : d ≡ dataOf b e k
+      same = by (ltb k (revolutions b)) h
+
+-- on a track that q found or refused: refused by q, then 14
+module _ (b : List ℕ) (k e : ℕ) (q : Refusal) where
+  on-by : (x : Bool) → passes q ≡ x
+      → revolutionOn b k (cond x (entry.At e) (entry.Refused q))
+      ≡ unless (refuseIf (not x) q (revolutionFault b k)) (revolution-answer.Found (dataOf b e k)) revolution-answer.Refused
+  unfolding refuseIf
+  on-by true h = refl
+  on-by false h = sym (simp h)
+
+  pub revolution-on-is : revolutionOn b k (unless q (entry.At e) entry.Refused)
+      ≡ unless (firstOf q (revolutionFault b k)) (revolution-answer.Found (dataOf b e k)) revolution-answer.Refused
+  unfolding firstOf
+  revolution-on-is = on-by (passes q) refl
+
+-- what q found or refused
+module _ (q : Refusal) (x : RevolutionData) where
+  pub told-found : {d : RevolutionData} → revolution-answer.Found d ≡ unless q (revolution-answer.Found x) revolution-answer.Refused
+      → (q .number ≡ 0) × (d ≡ x)
+  told-found {d} h = go (passes q) refl h
+    where
+      go : (y : Bool) → passes q ≡ y → revolution-answer.Found d ≡ cond y (revolution-answer.Found x) (revolution-answer.Refused q)
+          → (q .number ≡ 0) × (d ≡ x)
+      go true p h = (eqb-true (q .number) 0 p, cc)
+      go false p h = let z : _≡_ {A = ℕ} 0 1 = cc in absurd (omega arith)
+
+  pub told-refused : {f : Refusal} → revolution-answer.Refused f ≡ unless q (revolution-answer.Found x) revolution-answer.Refused
+      → (f ≡ q) × (f .number ≡ 0 → ⊥)
+  told-refused {f} h = go (passes q) refl h
+    where
+      go : (y : Bool) → passes q ≡ y → revolution-answer.Refused f ≡ cond y (revolution-answer.Found x) (revolution-answer.Refused q)
+          → (f ≡ q) × (f .number ≡ 0 → ⊥)
+      go true p h = let z : _≡_ {A = ℕ} 0 1 = cc in absurd (omega arith)
+      go false p h =
+          let e : f ≡ q = cc in
+          (e, λ z. eqb-false (q .number) 0 p (ap (λ (x : Refusal). x .number) (sym e) ∙ z))
+
+-- flux that lies in the image starts where its numbers say
+pub start-in : (b : List ℕ) (r : RevolutionAnswer)
+    → ((d : RevolutionData) → revolution-answer.Found d ≡ r → d .offset .0 + 2 * d .words ≤ length b) → startIn b r ≡ startOf r
+start-in b (revolution-answer.Found d) h = let within = h d refl in simp (le-leb (d .offset .0) (length b) (omega arith))
+start-in b (revolution-answer.Refused f) h = refl
 
 module _ (v : Edition) (b : List ℕ) (t k : ℕ) where
-  pub revolution-refused : {f : Refusal} → f ≡ revolutionQuestion v b t k → (f .number ≡ 0 → ⊥) → revolution-answer.Refused f ≡ foundRevolution v b t k
-  unfolding foundRevolution
-  revolution-refused {f} e n =
-      ap revolution-answer.Refused e
-      ∙ sym (simp (ne-eqb (revolutionQuestion v b t k .number) 0 (λ z. n (ap (λ (x : Refusal). x .number) e ∙ z))))
-
-  -- where the track is not found
-  pub no-track : {f : Refusal} → NotFound v b t f → revolution-answer.Refused f ≡ foundRevolution v b t k
-  no-track {f} h =
-      let n : trackQuestion v b t .number ≡ 0 → ⊥ = λ z. h .number (ap (λ (x : Refusal). x .number) (h .refuses) ∙ z) in
-      revolution-refused (h .refuses ∙ refused-alike v b t _ n) (h .number)
-
-  -- where the revolution is absent: its number is that of the case
-  pub absent-refused : {f : Refusal} → TrackThere v b t → ofPresence Absent ≡ revolutionFault b k → f ≡ ofPresence Absent
-      → revolution-answer.Refused f ≡ foundRevolution v b t k
-  absent-refused {f} h l e = revolution-refused (e ∙ l ∙ then-rest v b t _ h) (is-refusal 13 e)
+  -- the revolution of the track that is found
+  pub found-on : revolutionOn b k (foundTrack v b t) ≡ foundRevolution v b t k
+  unfolding foundTrack foundRevolution
+  found-on =
+      revolution-on-is b k (trackEntry b t) (trackQuestion v b t)
+      ∙ ap (λ (q : Refusal). unless q (revolution-answer.Found (dataOf b (trackEntry b t) k)) revolution-answer.Refused)
+      (sym (then-first v b t (revolutionFault b k)))
 
   -- the revolution is there
   pub record RevolutionThere : Type 0 where
@@ -134,13 +193,9 @@ module _ (v : Edition) (b : List ℕ) (t k : ℕ) where
 
   pub found-data : {d : RevolutionData} → revolution-answer.Found d ≡ foundRevolution v b t k → FoundData d
   unfolding foundRevolution
-  found-data {d} h = go (passes (revolutionQuestion v b t k)) refl h
-    where
-      go : (x : Bool) → passes (revolutionQuestion v b t k) ≡ x
-          → revolution-answer.Found d
-          ≡ cond x (revolution-answer.Found (dataOf b (trackEntry b t) k)) (revolution-answer.Refused (revolutionQuestion v b t k)) → FoundData d
-      go true q h = record { present = revolution-there (eqb-true (revolutionQuestion v b t k .number) 0 q); same = cc }
-      go false q h = let z : _≡_ {A = ℕ} 0 1 = cc in absurd (omega arith)
+  found-data h =
+      let told = told-found (revolutionQuestion v b t k) _ h in
+      record { present = revolution-there (told .0); same = told .1 }
 
   -- one that is refused is refused by the question
   pub record RevolutionRefused (f : Refusal) : Type 0 where
@@ -149,15 +204,9 @@ module _ (v : Edition) (b : List ℕ) (t k : ℕ) where
 
   pub found-refused : {f : Refusal} → revolution-answer.Refused f ≡ foundRevolution v b t k → RevolutionRefused f
   unfolding foundRevolution
-  found-refused {f} h = go (passes (revolutionQuestion v b t k)) refl h
-    where
-      go : (x : Bool) → passes (revolutionQuestion v b t k) ≡ x
-          → revolution-answer.Refused f
-          ≡ cond x (revolution-answer.Found (dataOf b (trackEntry b t) k)) (revolution-answer.Refused (revolutionQuestion v b t k)) → RevolutionRefused f
-      go true q h = let z : _≡_ {A = ℕ} 0 1 = cc in absurd (omega arith)
-      go false q h =
-          let e : f ≡ revolutionQuestion v b t k = cc in
-          record { refuses = e; number = λ z. eqb-false (revolutionQuestion v b t k .number) 0 q (ap (λ (x : Refusal). x .number) (sym e) ∙ z) }
+  found-refused h =
+      let told = told-refused (revolutionQuestion v b t k) (dataOf b (trackEntry b t) k) h in
+      record { refuses = told .0; number = told .1 }
 
   -- its flux lies in the image
   pub flux-within : {d : RevolutionData} → FoundData d → d .offset .0 + 2 * d .words ≤ length b
@@ -168,3 +217,7 @@ module _ (v : Edition) (b : List ℕ) (t k : ℕ) where
       let words = ap (λ (x : RevolutionData). x .words) (h .same) in
       let within = track .flux k (h .present .below) in
       omega arith
+
+  -- so it starts where its numbers say
+  pub found-start : startIn b (foundRevolution v b t k) ≡ startOf (foundRevolution v b t k)
+  found-start = start-in b (foundRevolution v b t k) (λ d h. flux-within (found-data h))

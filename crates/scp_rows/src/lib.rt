@@ -9,11 +9,11 @@ use refusals::Refusal;
 use scp::FooterAnswer;
 use scp::HeaderAnswer;
 use scp::SpeedAnswer;
-use scp::TrackAnswer;
 use scp::TrackSpeedAnswer;
 use scp::Validated;
 use scp_fields::Edition;
 use scp_lookup::RevolutionAnswer;
+use scp_lookup::TrackAnswer;
 use scp_speed::Speed;
 
 // The kinds of questions; any other is a validation.
@@ -129,7 +129,7 @@ fn flux_row(image: &[u8], edition: Edition, track: u32, revolution: u32) -> [u64
     match answer {
         RevolutionAnswer::Found(d) => {
             let offset = d.offset;
-            bytes_row(offset.0, scp_values::flux_of(image, d))
+            bytes_row(offset.0, scp_lookup::flux_of(image, d))
         }
         RevolutionAnswer::Refused(r) => refused_row(r),
     }

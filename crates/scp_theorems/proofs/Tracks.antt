@@ -20,17 +20,16 @@ use Rattle.scp_fields.specs.declared.Edition.{Edition}
 use Rattle.scp_fields.specs.Header.{trackEntry}
 use Rattle.scp_fields.specs.Footer.{stringSlots}
 use Rattle.scp_footer.specs.Footer.{stringFaultAt, stringFault, footerFault}
-use Rattle.scp_header.specs.HeaderFault.{headFault}
 use Rattle.scp_tracks.specs.Tracks.{durationAt, countAt, fluxAt, tracksFault}
 use Rattle.scp_tracks.specs.declared.RevolutionData.{RevolutionData}
 use Rattle.scp_open.specs.Opening.{openFault}
 use Rattle.scp_open.proofs.Opens.{opens}
 use Rattle.scp_lookup.specs.Questions.{trackThen, revolutionQuestion}
-use Rattle.scp_lookup.specs.Lookups.{foundRevolution}
+use Rattle.scp_lookup.specs.Lookups.{foundRevolution, fluxOf, partOf}
 use Rattle.scp_lookup.specs.declared.RevolutionAnswer.{RevolutionAnswer}
 use Rattle.scp_lookup.specs.declared.RevolutionAnswer.the-variants as revolution-answer
 use Rattle.scp_lookup.proofs.FoundLaws.{FoundData, revolution-there, revolution-found, found-data, found-refused, flux-within}
-use Rattle.scp.specs.Answers.{refused, numbers, revolutionAnswer, fluxOf, fluxPart, partOf, intervalsOf}
+use Rattle.scp.specs.Answers.{refused, numbers, revolutionAnswer, fluxPart, intervalsOf}
 use Rattle.scp_theorems.proofs.Numbers.{open-number, asked-number}
 use Rattle.scp_theorems.specs.Theorems.{TrackNumber, FluxIsCounted, NeverWords}
 

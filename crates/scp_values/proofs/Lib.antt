@@ -1,2 +1,1 @@
-pub mod FoundFlux
 pub mod FooterTimes

@@ -1,11 +1,10 @@
 -- The values of an answer as numbers, from the structures that the calls return; a header's are `headerNumbers` (Answers).
 use Prim.Native.Nat.{ℕ}
 use mathlib.Core.List.{List, [], _∷_}
-use lib.ListN.{take, drop}
 use Rattle.octets.specs.Numbers.{unsigned64}
 use Rattle.scp_tracks.specs.declared.RevolutionData.{RevolutionData}
 use Rattle.scp.specs.declared.FooterData.{FooterData}
-use Rattle.scp.specs.declared.TrackData.{TrackData}
+use Rattle.scp_lookup.specs.declared.TrackData.{TrackData}
 
 -- T-4, S-17: of a footer: 1, six offsets, two times as two's complement, four version bytes.
 abbrev pub footerNumbers : FooterData → List ℕ
@@ -20,7 +19,3 @@ trackNumbers d = d .cylinder ∷ d .head ∷ d .offset .0 ∷ d .revolutions ∷
 -- T-6: of a revolution: duration, count of words, file offset of its flux.
 abbrev pub revolutionNumbers : RevolutionData → List ℕ
 revolutionNumbers d = d .duration ∷ d .words ∷ d .offset .0 ∷ []
-
--- S-15: n bytes from a start on; a part that runs past the end is cut.
-abbrev pub part : List ℕ → ℕ → ℕ → List ℕ
-part b start n = take n (drop start b)

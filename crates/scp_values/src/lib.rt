@@ -1,9 +1,9 @@
-// The values of what a SuperCard Pro image answers, as numbers of 64 bits, and a revolution's flux as a part of the image.
+// The values of what a SuperCard Pro image answers, as numbers of 64 bits.
 ghost use mathlib.Core.Path.{_≡_};
-ghost use Rattle.scp.specs.Answers.{headerNumbers, fluxOf};
-ghost use Rattle.scp_values.specs.Values.{footerNumbers, trackNumbers, revolutionNumbers, part};
+ghost use Rattle.scp.specs.Answers.{headerNumbers};
+ghost use Rattle.scp_values.specs.Values.{footerNumbers, trackNumbers, revolutionNumbers};
 use scp::FooterData;
-use scp::TrackData;
+use scp_lookup::TrackData;
 use scp_open::Header;
 use scp_tracks::RevolutionData;
 
@@ -64,27 +64,4 @@ pub fn revolution_numbers(d: RevolutionData) -> [u64; 3]
     ensures { λ r. ⌜ r ≡ revolutionNumbers d ⌝ }
 {
     [d.duration as u64, d.words as u64, d.offset.0]
-}
-
-// n bytes from a start on, cut where the bytes end.
-pub fn part_of(whole: &[u8], start: usize, n: usize) -> &[u8]
-    ensures { λ r. ⌜ now r ≡ part (now (whole .entry)) start n ⌝ }
-{
-    let size = whole.len();
-    if size <= start {
-        return &whole[..0];
-    }
-    if size - start <= n {
-        return &whole[start..];
-    }
-    let end = start + n;
-    &whole[start..end]
-}
-
-// The flux of a revolution, cut where the image ends.
-pub fn flux_of(image: &[u8], d: RevolutionData) -> &[u8]
-    ensures { λ r. ⌜ now r ≡ fluxOf (now (image .entry)) d ⌝ }
-{
-    let offset = d.offset;
-    part_of(image, offset.0 as usize, 2 * (d.words as usize))
 }

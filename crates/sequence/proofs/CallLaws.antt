@@ -19,7 +19,7 @@ use Rattle.scp.specs.Answers.{Answer, refused, none, numbers, footer, speeds, b
 use Rattle.scp_book.specs.Book as book
 use Rattle.scp_book.specs.Book.{Call, after, answers}
 use Rattle.scp_book.specs.Claim.{Fits, AllFit}
-use Rattle.scp_values.specs.Values.{part}
+use Rattle.copies.specs.Copying.{part}
 use Rattle.scp_rows.specs.Rows.{questionOf, rowOf}
 use Rattle.scp_rows.proofs.RowLaws.{row-length}
 use Rattle.sequence.specs.Calls.{callSize, callOf, capped, field, callAt, callsFrom, callsOf, rowsOf}

@@ -8,7 +8,7 @@ use Rattle.scp_fields.specs.declared.Edition.{Edition}
 use Rattle.scp_fields.specs.Editions.{editionOf}
 use Rattle.scp.specs.Answers.{Answer}
 use Rattle.scp_book.specs.Book.{Call, ask, rewrite}
-use Rattle.scp_values.specs.Values.{part}
+use Rattle.copies.specs.Copying.{part}
 use Rattle.scp_rows.specs.Rows.{questionOf, rowOf}
 
 -- ---- a row of 7 numbers: kind, track, revolution, duration, start and length of its words, edition

@@ -68,7 +68,7 @@ fn call_row(image: &mut [u8], calls: &[u64], words: &[u8], i: usize) -> [u64; 16
     let edition = scp_fields::edition_of(calls[at + 6]);
     if kind == REWRITE {
         let duration = (calls[at + 3] % 4_294_967_296) as u32;
-        let part = scp_values::part_of(words, calls[at + 4] as usize, calls[at + 5] as usize);
+        let part = copies::part_of(words, calls[at + 4] as usize, calls[at + 5] as usize);
         return rewrite_row(image, edition, track, revolution, duration, part);
     }
     scp_rows::question_row(image, edition, kind, track, revolution)

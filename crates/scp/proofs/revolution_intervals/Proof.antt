@@ -7,7 +7,6 @@ use borrow.Author.Needs.{needs}
 use Rattle.scp_lookup.specs.declared.RevolutionAnswer.{RevolutionAnswer}
 use Rattle.flux.specs.Answers.{answerOf, bufferAfter, reading}
 use Rattle.scp.specs.Answers.{intervalsOf}
-use Rattle.scp_lookup.proofs.FoundLaws.{found-data, flux-within}
 use Rattle.scp.proofs.revolution_intervals.Statement.{statement}
 use Rattle.scp.proofs.revolution_intervals.Tie as tie
 
@@ -17,13 +16,8 @@ find-revolution-requires c κs = search needs
 enum-known-found : tie.Need-enum-known-found
 enum-known-found c = search needs
 
-part-of-requires : tie.Need-part-of-requires
-part-of-requires c κs =
-    let at-found = c .before in
-    let at-find = at-found .before .before in
-    let found = sym (at-found .found .given .1) ∙ at-find .find-revolution .ensures in
-    let start = at-find .before .before in
-    flux-within _ _ _ _ (found-data _ _ _ _ found)
+flux-of-requires : tie.Need-flux-of-requires
+flux-of-requires c κs = search needs
 
 intervals-requires : tie.Need-intervals-requires
 intervals-requires c κs = search needs
@@ -44,7 +38,7 @@ returns c =
     let start = at-find .before .before .before in
     let b = start .args .image .now in
     let old = start .args .times .now in
-    let flux = at-part .part-of .ensures .0 in (
+    let flux = at-part .flux-of .ensures .0 in (
       at-intervals .intervals .ensures .0 ∙ ap (λ (s : List ℕ). answerOf (reading s (length old))) flux
           ∙ ap (λ (r : RevolutionAnswer). answerOf (intervalsOf b (length old) r)) found,
       at-intervals .intervals .ensures .1 ∙ ap (λ (s : List ℕ). bufferAfter old (reading s (length old))) flux
@@ -69,7 +63,7 @@ revolution-intervals-spec =
     (tie.spec
     find-revolution-requires
     enum-known-found
-    part-of-requires
+    flux-of-requires
     intervals-requires
     enum-known-found-2
     same-length

@@ -2,7 +2,7 @@
 use mathlib.Core.Path.{sym, ap, _∙_}
 use Rattle.scp_fields.specs.Editions.{editionOf}
 use Rattle.scp.specs.Answers.{bytes, ofRevolution}
-use Rattle.scp_values.proofs.FoundFlux.{flux-found, flux-refused}
+use Rattle.scp.proofs.Answering.{flux-found, flux-refused}
 use Rattle.scp_boundary.specs.Boundary.{numbersOf}
 use Rattle.boundary.proofs.CodeAndBuffer.{pass-values, pass-refusal}
 use borrow.Author.Needs.{needs}
@@ -42,7 +42,7 @@ returns c =
     let a = at-call .before .before .before .before .args in
     let found = ap ofRevolution (sym (at-told .answer .given .1)) ∙ (rw (at-call .before .edition-of .ensures) at (at-call .revolution .ensures)) in
     let d = at-told .answer .given .0 .0 in
-    let told = ap (bytes (d .offset .0)) (at-flux .flux-of .ensures) ∙ flux-found (editionOf (a .edition)) (a .image .now) (a .track) (a .revolution) d found in
+    let told = ap (bytes (d .offset .0)) (at-flux .flux-of .ensures .0) ∙ flux-found (editionOf (a .edition)) (a .image .now) (a .track) (a .revolution) d found in
     pass-values (a .out .now) (ap numbersOf told) (at-give .give-bytes .ensures)
 
 returns-2 : tie.Need-returns-2

@@ -2,7 +2,6 @@
 use mathlib.Core.Path.{sym, ap, _∙_}
 use borrow.Author.Needs.{needs}
 use Rattle.refusals.specs.declared.Refusal.{Refusal}
-use Rattle.scp_header.proofs.Sizes.{head-least}
 use Rattle.scp_open.proofs.OpenLaws.{open-first, open-next, opened-refused, opened-passes}
 use Rattle.scp_open.proofs.open.Statement.{statement}
 use Rattle.scp_open.proofs.open.Tie as tie

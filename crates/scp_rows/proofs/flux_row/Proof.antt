@@ -1,7 +1,7 @@
 -- The revolution is found or refused, and where it is found the part of the image is its flux.
 use mathlib.Core.Path.{sym, ap, _∙_}
 use Rattle.scp.specs.Answers.{bytes, ofRevolution}
-use Rattle.scp_values.proofs.FoundFlux.{flux-found, flux-refused}
+use Rattle.scp.proofs.Answering.{flux-found, flux-refused}
 use Rattle.scp_rows.specs.Rows.{rowOf}
 use borrow.Author.Needs.{needs}
 use Rattle.scp_rows.proofs.flux_row.Statement.{statement}
@@ -34,7 +34,7 @@ returns c =
     let found = ap ofRevolution (sym (at-told .answer .given .1)) ∙ at-call .revolution .ensures in
     let d = at-told .answer .given .0 .0 in
     c .bytes-row .ensures
-    ∙ ap rowOf (ap (bytes (d .offset .0)) (at-flux .flux-of .ensures) ∙ flux-found (a .edition) (a .image .now) (a .track) (a .revolution) d found)
+    ∙ ap rowOf (ap (bytes (d .offset .0)) (at-flux .flux-of .ensures .0) ∙ flux-found (a .edition) (a .image .now) (a .track) (a .revolution) d found)
 
 returns-2 : tie.Need-returns-2
 returns-2 c =

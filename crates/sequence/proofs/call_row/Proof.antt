@@ -103,7 +103,7 @@ returns c =
     let a = at-track .before .before .before .before .before .before .args in
     let b = a .image .now in
     let call = call-rewrite (a .calls .now) (a .words .now) (a .i) (at-if .if1 .taken) in
-    let same = rewrite-same _ (at-edition .edition-of .ensures) (at-track .cap .ensures) (at-revolution .cap2 .ensures) (at-part .part-of .ensures) in (
+    let same = rewrite-same _ (at-edition .edition-of .ensures) (at-track .cap .ensures) (at-revolution .cap2 .ensures) (at-part .part-of .ensures .0) in (
       at-rewrite .rewrite-row .ensures .0 ∙ ap (λ (q : Call). rowOf (answer b q)) (same ∙ sym call),
       at-rewrite .rewrite-row .ensures .1 ∙ ap (after b) (same ∙ sym call),
     )
