@@ -1,11 +1,12 @@
 // The boundary to C and Rust: each call returns 0, or a refusal's number + 256 x its position, and puts its values to a lent buffer.
-// A slice passes as a pointer and a length (include/scp.h), and an edition as a number: 14 is 1.4, any other 1.6. What a call on flux or a
-// question does stands in `flux_coded` and `scp_coded`.
+// A slice passes as a pointer and a length (include/scp.h), and an edition as a number: 14 is 1.4, any other 1.6. What a call on flux, a
+// question or a direct call does stands in `flux_coded`, `scp_coded` and `direct_coded`.
 ghost use mathlib.Core.Path.{_≡_};
 ghost use lib.ListN.{length};
 ghost use Rattle.scp_fields.specs.Editions.{editionOf};
 ghost use Rattle.flux.specs.Answers.{stepAt, reading, writing, bufferAfter};
 ghost use Rattle.scp.specs.Answers.{Answer, validateAnswer, headerAnswer, footerAnswer, trackAnswer, revolutionAnswer, fluxAnswer, speedAnswer, trackSpeedAnswer};
+ghost use Rattle.scp_direct.specs.Direct.{directTrack, directRevolution, directFlux};
 ghost use Rattle.scp_rewrite.specs.Answering.{rewriteAnswer};
 ghost use Rattle.scp_rewrite.specs.Rewriting.{afterRewrite};
 ghost use Rattle.sequence.specs.Replaying.{replayAnswer, Replays};
@@ -79,6 +80,47 @@ pub extern "C" fn scp_flux(
     ensures { λ _. ⌜ now (out .exit) ≡ outAfter (now (out .entry)) (within (length (now (out .entry))) (numbersOf (fluxAnswer (editionOf edition) (now (image .entry)) track revolution))) ⌝ }
 {
     scp_coded::flux(image, edition, track, revolution, out)
+}
+
+// ---- an image, directly: without the walk over all of it
+
+// A track: cylinder, head, file offset of its header, revolutions. Refusals 1 to 6, 13, 9 to 11 of this track.
+#[no_mangle]
+pub extern "C" fn scp_direct_track(image: &[u8], edition: u32, track: u32, out: &mut [u64]) -> u64
+    ensures { λ r. ⌜ r ≡ codeOf (within (length (now (out .entry))) (numbersOf (directTrack (editionOf edition) (now (image .entry)) track))) ⌝ }
+    ensures { λ _. ⌜ now (out .exit) ≡ outAfter (now (out .entry)) (within (length (now (out .entry))) (numbersOf (directTrack (editionOf edition) (now (image .entry)) track))) ⌝ }
+{
+    direct_coded::track(image, edition, track, out)
+}
+
+// A revolution: duration, words, file offset of its flux. These refusals, then 14.
+#[no_mangle]
+pub extern "C" fn scp_direct_revolution(
+    image: &[u8],
+    edition: u32,
+    track: u32,
+    revolution: u32,
+    out: &mut [u64],
+) -> u64
+    ensures { λ r. ⌜ r ≡ codeOf (within (length (now (out .entry))) (numbersOf (directRevolution (editionOf edition) (now (image .entry)) track revolution))) ⌝ }
+    ensures { λ _. ⌜ now (out .exit) ≡ outAfter (now (out .entry)) (within (length (now (out .entry))) (numbersOf (directRevolution (editionOf edition) (now (image .entry)) track revolution))) ⌝ }
+{
+    direct_coded::revolution(image, edition, track, revolution, out)
+}
+
+// The flux of a revolution.
+#[no_mangle]
+pub extern "C" fn scp_direct_flux(
+    image: &[u8],
+    edition: u32,
+    track: u32,
+    revolution: u32,
+    out: &mut [u8],
+) -> u64
+    ensures { λ r. ⌜ r ≡ codeOf (within (length (now (out .entry))) (numbersOf (directFlux (editionOf edition) (now (image .entry)) track revolution))) ⌝ }
+    ensures { λ _. ⌜ now (out .exit) ≡ outAfter (now (out .entry)) (within (length (now (out .entry))) (numbersOf (directFlux (editionOf edition) (now (image .entry)) track revolution))) ⌝ }
+{
+    direct_coded::flux(image, edition, track, revolution, out)
 }
 
 // ---- speeds

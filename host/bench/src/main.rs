@@ -3,8 +3,9 @@
 //! Each round times the one and then the other on warmed buffers. A ratio is the library's time by plain Rust's, round by round: the
 //! median is reported, with the tenth and the ninetieth of a hundred as spread. Times themselves are not reported: machines differ.
 //!
-//! Two more tables have the library beside itself: how the time for a revolution of an SCP image depends on how many tracks and revolutions
-//! there are, and the time for a track block of a DSK image on how many tracks and sides.
+//! More tables have the library beside itself: how the time for a revolution of an SCP image depends on how many tracks and revolutions
+//! there are, a direct call beside the full one and on fewer tracks, and how the time for a track block of a DSK image depends on how many
+//! tracks and sides.
 
 #![forbid(unsafe_code)]
 
@@ -22,6 +23,9 @@ use std::time::Instant;
 /// A capture of the most tracks and revolutions that an image may have.
 const FULLEST: Style = Style { last_track: 167, revolutions: 255, ..CAPTURE };
 
+/// A capture of the most tracks, of five revolutions.
+const ALL_TRACKS: Style = Style { last_track: 167, ..CAPTURE };
+
 /// A capture of the most tracks that revision 1.4 has.
 const ALL_TRACKS_1_4: Style = Style { last_track: 165, ..CAPTURE_1_4 };
 
@@ -31,6 +35,7 @@ fn main() {
     validate(rounds);
     summing(rounds);
     question(rounds);
+    direct(rounds);
     reading(rounds);
     writing(rounds);
     rewriting(rounds);
@@ -39,6 +44,10 @@ fn main() {
     disks::write(rounds);
     say_columns("library's time for each revolution, beside 168 tracks of 255");
     growth(rounds);
+    say_columns("library's direct call, beside its full call");
+    direct_beside_full(rounds);
+    say_columns("library's direct call, beside 168 tracks of as many revolutions");
+    direct_growth(rounds);
     say_columns("library's time for each track block, beside 255 tracks of 2 sides");
     disks::growth(rounds);
 }
@@ -120,20 +129,68 @@ fn question(rounds: usize) {
     for (tracks, times, style) in [(80, 2000, Style { heads: 1, ..CAPTURE }), (168, 50, FULLEST), (166, 1000, ALL_TRACKS_1_4)] {
         let (image, edition) = (image(&style, 100), style.edition);
         let library = || ask(black_box(&image), edition);
-        let plain = || match plain::revolution(black_box(&image), black_box(edition), 16, 2) {
-            Ok(found) => u64::from(found.duration) + u64::from(found.words) + found.place,
-            Err((number, position)) => u64::from(number) + 256 * position,
-        };
+        let plain = || added(plain::revolution(black_box(&image), black_box(edition), 16, 2));
         let (revolutions, by) = (style.revolutions, by(edition));
         ratio(&format!("open {tracks} tracks of {revolutions} revolutions and ask for one{by}"), rounds, times, library, plain);
     }
 }
 
+/// Asking for one revolution directly, on images of the most tracks.
+fn direct(rounds: usize) {
+    for (tracks, times, style) in [(168, 200_000, ALL_TRACKS), (168, 10_000, FULLEST), (166, 200_000, ALL_TRACKS_1_4)] {
+        let (image, edition) = (image(&style, 100), style.edition);
+        let library = || ask_directly(black_box(&image), edition);
+        let plain = || added(plain::direct_revolution(black_box(&image), black_box(edition), 16, 2));
+        let (revolutions, by) = (style.revolutions, by(edition));
+        ratio(&format!("ask for one of {tracks} tracks of {revolutions} revolutions directly{by}"), rounds, times, library, plain);
+    }
+}
+
+/// The direct call beside the full one, which walks over all tracks.
+fn direct_beside_full(rounds: usize) {
+    for (times, style) in [(1000, ALL_TRACKS), (50, FULLEST)] {
+        let (image, edition) = (image(&style, 100), style.edition);
+        let (first, second) = ((times, || ask_directly(black_box(&image), edition)), (times, || ask(black_box(&image), edition)));
+        beside(&format!("ask for a revolution of 168 tracks of {}", style.revolutions), rounds, first, second);
+    }
+}
+
+/// The direct call on fewer tracks: it does not grow with their number.
+fn direct_growth(rounds: usize) {
+    for (times, style) in [(200_000, ALL_TRACKS), (10_000, FULLEST)] {
+        let (most, edition) = (image(&style, 20), style.edition);
+        for tracks in [21, 84] {
+            let fewer = image(&Style { last_track: tracks - 1, ..style }, 20);
+            let first = (times, || ask_directly(black_box(&fewer), edition));
+            let second = (times, || ask_directly(black_box(&most), edition));
+            beside(&format!("ask for a revolution of {tracks} tracks of {}", style.revolutions), rounds, first, second);
+        }
+    }
+}
+
 /// The numbers of a revolution, added.
 fn ask(image: &[u8], edition: Edition) -> u64 {
+    asked(|out| raw::revolution(image, edition.number(), 16, 2, out))
+}
+
+/// The numbers of a revolution, asked for directly, added.
+fn ask_directly(image: &[u8], edition: Edition) -> u64 {
+    asked(|out| raw::direct_revolution(image, edition.number(), 16, 2, out))
+}
+
+/// The numbers that a call puts, added.
+fn asked(call: impl FnOnce(&mut [u64]) -> u64) -> u64 {
     let mut out = [0; 3];
-    assert_eq!(raw::revolution(image, edition.number(), 16, 2, &mut out), 0, "the revolution is there");
+    assert_eq!(call(&mut out), 0, "the revolution is there");
     out.iter().sum()
+}
+
+/// The numbers of a plain revolution, added, or the code of its refusal.
+fn added(answer: Result<plain::Revolution, plain::Refused>) -> u64 {
+    match answer {
+        Ok(found) => u64::from(found.duration) + u64::from(found.words) + found.place,
+        Err(refused) => code::<()>(Err(refused)),
+    }
 }
 
 /// Flux of 50,000 words, by the cursor and at one go.
@@ -187,7 +244,7 @@ fn writing(rounds: usize) {
 /// One rewrite on an image with all tracks: where the flux of most others lies behind it, and where it lies before.
 fn rewriting(rounds: usize) {
     for (name, words, times, style) in [
-        ("read-only, 5 revolutions", 1000, 1000, Style { last_track: 167, ..CAPTURE }),
+        ("read-only, 5 revolutions", 1000, 1000, ALL_TRACKS),
         ("read-only, 255 revolutions", 100, 50, FULLEST),
         ("read/write", 1000, 1000, Style { last_track: 167, ..READ_WRITE }),
         ("read-only, 5 revolutions", 1000, 1000, ALL_TRACKS_1_4),

@@ -41,7 +41,10 @@ fn le32(image: &[u8], place: usize) -> u32 {
 /// Refusals 1 to 11; gives the table, with 0 for a track that the edition does not have.
 pub fn open(image: &[u8], edition: Edition) -> Result<[u32; 168], Refused> {
     check_header(image, edition)?;
-    let body = (table_end(edition) as u64, body_end(image, edition));
+    if has_footer(image, edition) {
+        check_footer(image)?;
+    }
+    let body = body(image, edition);
     let revolutions = usize::from(image[5]);
     let mut table = [0; 168];
     for (track, entry) in table.iter_mut().enumerate().take(tracks(edition)) {
@@ -53,6 +56,7 @@ pub fn open(image: &[u8], edition: Edition) -> Result<[u32; 168], Refused> {
     Ok(table)
 }
 
+/// Refusals 1 to 6.
 fn check_header(image: &[u8], edition: Edition) -> Result<(), Refused> {
     if !(table_end(edition)..=268_435_456).contains(&image.len()) {
         return Err((1, 0));
@@ -72,12 +76,10 @@ fn check_header(image: &[u8], edition: Edition) -> Result<(), Refused> {
     if image[10] > 2 {
         return Err((6, 0));
     }
-    if has_footer(image, edition) {
-        check_footer(image)?;
-    }
     Ok(())
 }
 
+/// Refusals 7 and 8.
 fn check_footer(image: &[u8]) -> Result<(), Refused> {
     if image.len() < 736 || !image.ends_with(b"FPCS") || image[image.len() - 5] < 0x16 {
         return Err((7, 0));
@@ -98,9 +100,10 @@ fn good_string(body: &[u8], offset: usize) -> bool {
     offset >= 688 && text[size] == 0 && !text[..size].contains(&0)
 }
 
-/// E: where tracks, flux and strings end.
-fn body_end(image: &[u8], edition: Edition) -> u64 {
-    image.len() as u64 - if has_footer(image, edition) { 48 } else { 0 }
+/// Where tracks, flux and strings may stand: from the end of the table to E.
+fn body(image: &[u8], edition: Edition) -> Extent {
+    let footer = if has_footer(image, edition) { 48 } else { 0 };
+    (table_end(edition) as u64, image.len() as u64 - footer)
 }
 
 fn check_track(image: &[u8], track: usize, entry: u64, revolutions: usize, (start, end): Extent) -> Result<(), u32> {
@@ -155,6 +158,22 @@ pub fn revolution(image: &[u8], edition: Edition, track: u32, revolution: u32) -
     find(image, &open(image, edition)?, track, revolution)
 }
 
+/// A revolution without the walk over all tracks: refusals 1 to 6, 13, 9 to 11 of its track, 14.
+#[inline(never)]
+pub fn direct_revolution(image: &[u8], edition: Edition, track: u32, revolution: u32) -> Result<Revolution, Refused> {
+    check_header(image, edition)?;
+    let index = track as usize;
+    if index >= tracks(edition) {
+        return Err((13, 0));
+    }
+    let entry = le32(image, 16 + 4 * index);
+    if entry == 0 {
+        return Err((13, 0));
+    }
+    check_track(image, index, entry.into(), image[5].into(), body(image, edition)).map_err(|number| (number, track.into()))?;
+    of_entry(image, entry, revolution)
+}
+
 /// The byte sum of a revolution's flux.
 #[inline(never)]
 pub fn flux_sum(image: &[u8], edition: Edition, track: u32, k: u32) -> Result<u32, Refused> {
@@ -165,6 +184,11 @@ pub fn flux_sum(image: &[u8], edition: Edition, track: u32, k: u32) -> Result<u3
 /// A revolution of an opened image.
 fn find(image: &[u8], table: &[u32; 168], track: u32, revolution: u32) -> Result<Revolution, Refused> {
     let entry = table.get(track as usize).copied().filter(|&entry| entry != 0).ok_or((13, 0))?;
+    of_entry(image, entry, revolution)
+}
+
+/// A revolution of the track data header at an entry.
+fn of_entry(image: &[u8], entry: u32, revolution: u32) -> Result<Revolution, Refused> {
     if revolution >= image[5].into() {
         return Err((14, 0));
     }

@@ -1,0 +1,172 @@
+-- Where the image opens, the tests that a direct call leaves out refuse nothing, so that its question is the full one; and the full question
+-- of an image that opens is refused by 13 or 14 alone.
+use Prim.Native.Nat.{ℕ, _<_, _≤_}
+use mathlib.Core.Path.{_≡_, refl, sym, ap, _∙_}
+use mathlib.Core.Logic.{_≢_}
+use mathlib.Core.List.{List}
+use mathlib.Core.Bool.{Bool, true, false, cond}
+use native.Mathlib.Omega.{arith}
+use lib.Dec.{eqb, leb}
+use borrow.Author.Tests.{leb-false}
+use Rattle.refusals.specs.declared.Refusal.{Refusal}
+use Rattle.refusals.specs.Refusals.{none, refusal, passes, refuseIf, firstOf}
+use Rattle.refusals.specs.Refusals as refusals
+use Rattle.refusals.proofs.Chain.{first-next}
+use Rattle.refusals.proofs.Finding.{both-clear, from-clear, Clear, clear-refuse, holds-if}
+use Rattle.scp_fields.specs.declared.Edition.{Edition}
+use Rattle.scp_fields.specs.Editions.{slots}
+use Rattle.scp_fields.specs.Header.{revolutions, trackEntry}
+use Rattle.scp_footer.specs.Footer.{footerFault}
+use Rattle.scp_header.specs.HeaderFault.{headerFault, headFault}
+use Rattle.scp_tracks.specs.Tracks.{badSlot, badTrack, badFlux, trackFaultAt, trackFault, tracksFault}
+use Rattle.scp_tracks.specs.Revolutions.{dataOf, revolutionFault}
+use Rattle.scp_open.specs.Opening.{openFault}
+use Rattle.scp_open.proofs.Opens.{clear-open}
+use Rattle.scp_lookup.specs.Questions.{trackThen, trackQuestion, revolutionQuestion}
+use Rattle.scp_lookup.specs.Lookups.{foundRevolution, partOf, startOf}
+use Rattle.scp_lookup.specs.declared.RevolutionAnswer.{RevolutionAnswer}
+use Rattle.scp_lookup.specs.declared.RevolutionAnswer.the-variants as revolution-answer
+use Rattle.scp_lookup.proofs.Asking.{then-open, opens-then}
+use Rattle.scp_lookup.proofs.FoundLaws.{then-first}
+use Rattle.scp.specs.Answers.{Answer, refused, numbers, bytes, unless, trackValues, trackAnswer, revolutionValues, revolutionAnswer, fluxStart, fluxPart, fluxAnswer}
+use Rattle.scp.proofs.Answering.{unless-refused}
+use Rattle.scp_direct.specs.Direct.{directTrackQuestion, directRevolutionQuestion, directFound, directTrack, directRevolution, directPart, directStart, directFlux}
+use Rattle.scp_direct.specs.Theorems.{SameAnswers, Agrees, RefusedToo, Sound, RefusesSoundly}
+
+-- a finding of a track with number 0 is none
+clear-track : (v : Edition) (b : List ℕ) (e t : ℕ) → Clear (trackFaultAt v b e t)
+unfolding trackFaultAt refuseIf
+clear-track v b e t = by (eqb e 0)
+  where
+    by : (x : Bool)
+        → Clear
+        (refuseIf x none
+        (refuseIf (badSlot b t) (refusal 9 t) (refuseIf (badTrack v b e t) (refusal 10 t) (refuseIf (badFlux v b e) (refusal 11 t) none))))
+    by true = λ z. refl
+    by false =
+        clear-refuse (badSlot b t) 8 t _
+        (clear-refuse (badTrack v b e t) 9 t _
+        (clear-refuse (badFlux v b e) 10 t none (λ z. refl)))
+
+-- ---- an image that opens
+
+module _ (v : Edition) (b : List ℕ) (opens : openFault v b ≡ none) where
+  number : openFault v b .number ≡ 0
+  number = ap (λ (f : Refusal). f .number) opens
+
+  -- neither its header nor a track is refused
+  parts : (headerFault v b .number ≡ 0) × (tracksFault v b .number ≡ 0)
+  unfolding openFault headFault
+  parts =
+      let found = both-clear (headFault v b) (tracksFault v b) number in
+      (both-clear (headerFault v b) (footerFault v b) (found .0) .0, found .1)
+
+  track-clear : (t : ℕ) → t < slots v → trackFault v b t ≡ none
+  track-clear t h =
+      clear-track v b (trackEntry b t) t (from-clear (trackFault v b) 0 (slots v) (parts .1) t (omega arith) (omega arith))
+
+  same-track : (t : ℕ) → directTrackQuestion v b t ≡ trackQuestion v b t
+  unfolding directTrackQuestion refuseIf
+  same-track t =
+      sym (first-next (headerFault v b) _ refl (parts .0) refl) ∙ by (leb (slots v) t) refl ∙ opens-then v b t none number
+    where
+      by : (x : Bool) → leb (slots v) t ≡ x
+          → refuseIf x (refusal 13 0) (refuseIf (eqb (trackEntry b t) 0) (refusal 13 0) (trackFault v b t))
+          ≡ refuseIf x (refusal 13 0) (refuseIf (eqb (trackEntry b t) 0) (refusal 13 0) none)
+      by true h = refl
+      by false h = ap (λ (f : Refusal). refuseIf (eqb (trackEntry b t) 0) (refusal 13 0) f) (track-clear t (leb-false (slots v) t h))
+
+  same-revolution : (t k : ℕ) → directRevolutionQuestion v b t k ≡ revolutionQuestion v b t k
+  unfolding directRevolutionQuestion
+  same-revolution t k =
+      ap (λ (q : Refusal). firstOf q (revolutionFault b k)) (same-track t) ∙ sym (then-first v b t (revolutionFault b k))
+
+  same-found : (t k : ℕ) → directFound v b t k ≡ foundRevolution v b t k
+  unfolding directFound foundRevolution
+  same-found t k =
+      ap (λ (q : Refusal). refusals.unless q (revolution-answer.Found (dataOf b (trackEntry b t) k)) revolution-answer.Refused)
+      (same-revolution t k)
+
+  pub same-answers : SameAnswers v b
+  unfolding directTrack trackAnswer directRevolution revolutionAnswer
+  same-answers =
+      record {
+        track = λ t. ap (λ (q : Refusal). unless q (trackValues b t)) (same-track t);
+        revolution = λ t k. ap (λ (q : Refusal). unless q (revolutionValues b t k)) (same-revolution t k);
+        flux = λ t k.
+            ap (λ (r : RevolutionAnswer). unless (directRevolutionQuestion v b t k) (bytes (startOf r) (partOf b r))) (same-found t k)
+            ∙ ap (λ (q : Refusal). unless q (bytes (fluxStart v b t k) (fluxPart v b t k))) (same-revolution t k);
+        part = λ t k. ap (partOf b) (same-found t k);
+        start = λ t k. ap startOf (same-found t k);
+      }
+
+  -- the number of a refusal is not one of 1 to 11
+  abbrev Later : Refusal → Type 0
+  Later f = 1 ≤ f .number → f .number ≤ 11 → ⊥
+
+  late : (n : ℕ) → 12 ≤ n → Later (refusal n 0)
+  late n h a z = omega arith
+
+  late-none : Later none
+  late-none a z = omega arith
+
+  late-then : (t : ℕ) (rest : Refusal) → Later rest → Later (trackThen v b t rest)
+  late-then t rest h =
+      rw (sym (opens-then v b t rest number))
+      (holds-if Later (leb (slots v) t) (refusal 13 0) _ (late 13 (omega arith))
+      (holds-if Later (eqb (trackEntry b t) 0) (refusal 13 0) rest (late 13 (omega arith)) h))
+
+  late-track : (t : ℕ) → Later (trackQuestion v b t)
+  late-track t = late-then t none late-none
+
+  late-revolution : (t k : ℕ) → Later (revolutionQuestion v b t k)
+  late-revolution t k =
+      late-then t _ (holds-if Later (leb (revolutions b) k) (refusal 14 0) none (late 14 (omega arith)) late-none)
+
+pub agrees : Agrees
+agrees = same-answers
+
+-- ---- a refusal by 1 to 11
+
+-- an answer that is a refusal has the number of what refuses
+told-number : (q : Refusal) (a : Answer) (n p : ℕ) → (a ≡ refused n p → ⊥) → unless q a ≡ refused n p → q .number ≡ n
+told-number q a n p other e = by (passes q) e
+  where
+    by : (x : Bool) → cond x a (refused (q .number) (q .position)) ≡ refused n p → q .number ≡ n
+    by true e = absurd (other e)
+    by false e = cc
+
+module _ (v : Edition) (b : List ℕ) (n p : ℕ) (least : 1 ≤ n) (most : n ≤ 11) where
+  -- where the question is refused by nothing of 1 to 11 once the image opens, the image does not open
+  closed : (q : Refusal) (a : Answer) → (a ≡ refused n p → ⊥) → unless q a ≡ refused n p → (1 ≤ q .number → q .number ≤ 11 → ⊥) → ⊥
+  closed q a other e h = let same = told-number q a n p other e in h (omega arith) (omega arith)
+
+  no-numbers : (vs : List ℕ) → numbers vs ≡ refused n p → ⊥
+  no-numbers vs e = let z : _≡_ {A = ℕ} 0 1 = cc in absurd (omega arith)
+
+  no-bytes : (s : ℕ) (bs : List ℕ) → bytes s bs ≡ refused n p → ⊥
+  no-bytes s bs e = let z : _≡_ {A = ℕ} 0 1 = cc in absurd (omega arith)
+
+  -- then the full call is refused by opening
+  too : (t : ℕ) (rest : Refusal) (a : Answer) → openFault v b ≢ none → RefusedToo v b (unless (trackThen v b t rest) a)
+  too t rest a shut =
+      let nonzero : openFault v b .number ≡ 0 → ⊥ = λ z. shut (clear-open v b z) in
+      record { opening = shut; answer = sym (unless-refused (trackThen v b t rest) a (then-open v b t rest refl nonzero) nonzero) }
+
+  sound : Sound v b n p
+  unfolding trackAnswer revolutionAnswer
+  sound =
+      record {
+        track = λ t e.
+            too t none _ (λ opens.
+            closed (trackQuestion v b t) _ (no-numbers _) (sym (same-answers v b opens .track t) ∙ e) (late-track v b opens t));
+        revolution = λ t k e.
+            too t _ _ (λ opens.
+            closed (revolutionQuestion v b t k) _ (no-numbers _) (sym (same-answers v b opens .revolution t k) ∙ e) (late-revolution v b opens t k));
+        flux = λ t k e.
+            too t _ _ (λ opens.
+            closed (revolutionQuestion v b t k) _ (no-bytes _ _) (sym (same-answers v b opens .flux t k) ∙ e) (late-revolution v b opens t k));
+      }
+
+pub refuses-soundly : RefusesSoundly
+refuses-soundly = sound

@@ -1,0 +1,122 @@
+-- The chain of refusals of a direct call, and what is answered of what it finds.
+use Prim.Native.Nat.{ℕ, _+_, _*_, _<_, _≤_}
+use mathlib.Core.Path.{_≡_, refl, sym, ap, _∙_}
+use mathlib.Core.List.{List}
+use native.Mathlib.Omega.{arith}
+use lib.ListN.{length}
+use lib.Dec.{eqb, leb}
+use borrow.Author.Tests.{eq-eqb, ne-eqb, eqb-false, le-leb, lt-leb, leb-false}
+use Rattle.refusals.specs.declared.Refusal.{Refusal}
+use Rattle.refusals.specs.Refusals.{none, refusal, refuseIf}
+use Rattle.refusals.proofs.Answers.{unless-refused, unless-found}
+use Rattle.refusals.proofs.Chain.{refuse-here, refuse-next, first-here, first-next}
+use Rattle.refusals.proofs.Finding.{both-clear, clear-both, pass, not-refused}
+use Rattle.scp_fields.specs.declared.Edition.{Edition}
+use Rattle.scp_fields.specs.Editions.{slots}
+use Rattle.scp_fields.specs.Header.{revolutions, trackEntry}
+use Rattle.scp_header.specs.HeaderFault.{headerFault}
+use Rattle.scp_tracks.specs.Tracks.{trackFault}
+use Rattle.scp_tracks.specs.Revolutions.{dataOf, revolutionFault}
+use Rattle.scp_tracks.specs.declared.RevolutionData.{RevolutionData}
+use Rattle.scp_open.proofs.Opens.{track-holds}
+use Rattle.scp_lookup.specs.declared.Entry.the-variants as entry
+use Rattle.scp_lookup.specs.declared.RevolutionAnswer.the-variants as revolution-answer
+use Rattle.scp_lookup.specs.Lookups.{trackOn, revolutionOn, fluxOf, startOf, startIn}
+use Rattle.scp_lookup.proofs.FoundLaws.{revolution-on-is, told-found, start-in}
+use Rattle.scp.specs.Answers.{refused, bytes, ofTrack, ofRevolution}
+use Rattle.scp.proofs.Answering.{track-told, revolution-told, flux-told, flux-untold}
+use Rattle.scp_direct.specs.Direct.{directTrackQuestion, directRevolutionQuestion, directEntry, directFound, directTrack, directRevolution, directFlux}
+
+-- ---- a track
+
+module _ (v : Edition) (b : List ℕ) (t : ℕ) where
+  pub entry-refused : {f : Refusal} → f ≡ directTrackQuestion v b t → (f .number ≡ 0 → ⊥) → entry.Refused f ≡ directEntry v b t
+  unfolding directEntry
+  entry-refused e n = unless-refused (directTrackQuestion v b t) _ entry.Refused e n
+
+  pub by-header : {f : Refusal} → f ≡ headerFault v b → (f .number ≡ 0 → ⊥) → f ≡ directTrackQuestion v b t
+  unfolding directTrackQuestion
+  by-header e n = first-here (headerFault v b) _ e n
+
+  -- past the header
+  module _ (z : headerFault v b .number ≡ 0) where
+    pub by-slot : {f : Refusal} → slots v ≤ t → f ≡ refusal 13 0 → f ≡ directTrackQuestion v b t
+    unfolding directTrackQuestion
+    by-slot h e = first-next (headerFault v b) _ refl z (refuse-here (leb (slots v) t) _ _ (le-leb (slots v) t h) e)
+
+    pub by-entry : {f : Refusal} → t < slots v → trackEntry b t ≡ 0 → f ≡ refusal 13 0 → f ≡ directTrackQuestion v b t
+    unfolding directTrackQuestion
+    by-entry h a e =
+        first-next (headerFault v b) _ refl z
+        (refuse-next (leb (slots v) t) _ _ (lt-leb (slots v) t h) (refuse-here (eqb (trackEntry b t) 0) _ _ (eq-eqb (trackEntry b t) 0 a) e))
+
+    pub by-track : {f : Refusal} → t < slots v → (trackEntry b t ≡ 0 → ⊥) → f ≡ trackFault v b t → f ≡ directTrackQuestion v b t
+    unfolding directTrackQuestion
+    by-track h a e =
+        first-next (headerFault v b) _ refl z
+        (refuse-next (leb (slots v) t) _ _ (lt-leb (slots v) t h) (refuse-next (eqb (trackEntry b t) 0) _ _ (ne-eqb (trackEntry b t) 0 a) e))
+
+  -- the header is not refused, and the track is there and not refused
+  pub record DirectThere : Type 0 where
+    pub slot : t < slots v
+    pub entry : trackEntry b t ≡ 0 → ⊥
+    pub holds : trackFault v b t .number ≡ 0
+
+  pub direct-there : directTrackQuestion v b t .number ≡ 0 → DirectThere
+  unfolding directTrackQuestion
+  direct-there z =
+      let first = both-clear (headerFault v b) _ z in
+      let high = not-refused (leb (slots v) t) 12 0 _ (first .1) in
+      let absent = not-refused (eqb (trackEntry b t) 0) 12 0 _ (high .1) in
+      record {
+        slot = leb-false (slots v) t (high .0);
+        entry = eqb-false (trackEntry b t) 0 (absent .0);
+        holds = absent .1;
+      }
+
+  pub entry-found : {e : ℕ} → directTrackQuestion v b t .number ≡ 0 → e ≡ trackEntry b t → entry.At e ≡ directEntry v b t
+  unfolding directEntry
+  entry-found z e = unless-found (directTrackQuestion v b t) _ entry.Refused z (ap entry.At e)
+
+  pub direct-track-is : ofTrack (trackOn b t (directEntry v b t)) ≡ directTrack v b t
+  unfolding directEntry directTrack
+  direct-track-is = track-told b t (directTrackQuestion v b t)
+
+-- ---- a revolution
+
+module _ (v : Edition) (b : List ℕ) (t k : ℕ) where
+  pub direct-on : revolutionOn b k (directEntry v b t) ≡ directFound v b t k
+  unfolding directEntry directFound directRevolutionQuestion
+  direct-on = revolution-on-is b k (trackEntry b t) (directTrackQuestion v b t)
+
+  pub direct-revolution-is : ofRevolution (directFound v b t k) ≡ directRevolution v b t k
+  unfolding directFound directRevolution
+  direct-revolution-is = revolution-told b t k (directRevolutionQuestion v b t k)
+
+  -- the flux of one that is found lies in the image
+  direct-within : (d : RevolutionData) → revolution-answer.Found d ≡ directFound v b t k → d .offset .0 + 2 * d .words ≤ length b
+  unfolding directFound directRevolutionQuestion
+  direct-within d h =
+      let told = told-found (directRevolutionQuestion v b t k) _ h in
+      let both = both-clear (directTrackQuestion v b t) (revolutionFault b k) (told .0) in
+      let there = direct-there v b t (both .0) in
+      let below = leb-false (revolutions b) k (not-refused (leb (revolutions b) k) 13 0 none (both .1) .0) in
+      let track = track-holds v b (trackEntry b t) t .0 (there .holds) (there .entry) in
+      let offset = ap (λ (x : RevolutionData). x .offset .0) (told .1) in
+      let words = ap (λ (x : RevolutionData). x .words) (told .1) in
+      let within = track .flux k below in
+      omega arith
+
+  pub direct-start : startIn b (directFound v b t k) ≡ startOf (directFound v b t k)
+  direct-start = start-in b (directFound v b t k) direct-within
+
+  -- the flux that is answered, by what asking for the revolution gave
+  pub direct-flux-found : (d : RevolutionData) → ofRevolution (revolution-answer.Found d) ≡ directRevolution v b t k
+      → bytes (d .offset .0) (fluxOf b d) ≡ directFlux v b t k
+  unfolding directFound directRevolution
+  direct-flux-found = flux-told b t k (directRevolutionQuestion v b t k)
+
+  pub direct-flux-refused : (r : Refusal) → ofRevolution (revolution-answer.Refused r) ≡ directRevolution v b t k
+      → refused (r .number) (r .position) ≡ directFlux v b t k
+  unfolding directFound directRevolution
+  direct-flux-refused = flux-untold b t k (directRevolutionQuestion v b t k)

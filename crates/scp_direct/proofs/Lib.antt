@@ -1,0 +1,2 @@
+pub mod DirectLaws
+pub mod Agreement
