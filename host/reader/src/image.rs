@@ -1,4 +1,4 @@
-//! Parsing of a whole image into owned structures, with the refusals 1 to 11, 13 and 14.
+//! Parsing of a whole image, or of one track alone, into owned structures, with the refusals 1 to 11, 13 and 14.
 
 use std::collections::BTreeMap;
 use std::ops::Range;
@@ -64,6 +64,16 @@ impl TrackData {
         let index = usize::try_from(revolution).map_err(|_| refuse(14))?;
         self.revolutions.get(index).copied().ok_or(refuse(14))
     }
+}
+
+/// The rules, Q-1: 1 to 6, then 13, then 9 to 11 of this track; the footer, its strings and other tracks are not looked at.
+pub(crate) fn parse_alone(image: &[u8], edition: Edition, track: u32) -> Result<TrackData, Refusal> {
+    let header = parse_header(image, edition)?;
+    if track >= edition.entries() {
+        return Err(refuse(13));
+    }
+    let body = body(image, edition, &header);
+    parse_slot(image, edition, body, &header, track)?.ok_or(refuse(13))
 }
 
 /// A stretch given by start and length, as a range of indices.
@@ -224,25 +234,32 @@ fn parse_string(body: &[u8], edition: Edition, place: u64) -> Option<Text> {
     Some(Text { place, bytes: bytes.to_vec() })
 }
 
-/// The rules, Numbers of refusal: tracks from index 0 up, each with 9, then 10, then 11.
+/// The rules, Numbers of refusal: tracks from index 0 up; the first faulty index refuses.
 fn parse_tracks(image: &[u8], edition: Edition, body: &[u8], header: &Header) -> Result<BTreeMap<u32, TrackData>, Refusal> {
     let mut tracks = BTreeMap::new();
     for index in 0..edition.entries() {
-        let entry = number32(image, 0x10 + 4 * u64::from(index)).ok_or(refuse(1))?;
-        if entry == 0 {
-            continue;
+        if let Some(data) = parse_slot(image, edition, body, header, index)? {
+            tracks.insert(index, data);
         }
-        if !may_hold(header, index) {
-            return Err(refuse_at(9, u64::from(index)));
-        }
-        let data = parse_track(body, edition, header, index, u64::from(entry));
-        let data = data.ok_or(refuse_at(10, u64::from(index)))?;
-        if !data.revolutions.iter().all(|one| flux_lies(body, one)) {
-            return Err(refuse_at(11, u64::from(index)));
-        }
-        tracks.insert(index, data);
     }
     Ok(tracks)
+}
+
+/// The rules, Numbers of refusal: the track of one table entry, with 9, then 10, then 11; none if the entry is 0.
+fn parse_slot(image: &[u8], edition: Edition, body: &[u8], header: &Header, index: u32) -> Result<Option<TrackData>, Refusal> {
+    let entry = number32(image, 0x10 + 4 * u64::from(index)).ok_or(refuse(1))?;
+    if entry == 0 {
+        return Ok(None);
+    }
+    if !may_hold(header, index) {
+        return Err(refuse_at(9, u64::from(index)));
+    }
+    let data = parse_track(body, edition, header, index, u64::from(entry));
+    let data = data.ok_or(refuse_at(10, u64::from(index)))?;
+    if !data.revolutions.iter().all(|one| flux_lies(body, one)) {
+        return Err(refuse_at(11, u64::from(index)));
+    }
+    Ok(Some(data))
 }
 
 /// The rules, refusal 9: within start to end, and on a side that is held.

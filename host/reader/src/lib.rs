@@ -1,12 +1,14 @@
 //! A plain reader for SuperCard Pro (SCP) flux images.
 //!
-//! An image is first parsed into owned structures; every question is then answered from these.
-//! "The rules" in the comments are the paper of exact rules for this format, with two requests: Q-2, 1 to 255 revolutions, and
-//! Q-6, images of revision 1.4 beside those of 1.6.
+//! An image is first parsed into owned structures; every question is then answered from these. A direct question parses the
+//! header and one track alone.
+//! "The rules" in the comments are the paper of exact rules for this format, with three requests: Q-1, one track without the whole
+//! walk, Q-2, 1 to 255 revolutions, and Q-6, images of revision 1.4 beside those of 1.6.
 
 #![forbid(unsafe_code)]
 
 mod answers;
+pub mod direct;
 mod edition;
 mod flux;
 mod image;

@@ -2,7 +2,7 @@
 
 use crate::answers::{refuse, Footer, Header, Refusal, Revolution, Track};
 use crate::edition::Edition;
-use crate::image::{stretch, true_sum, Image};
+use crate::image::{stretch, true_sum, Image, TrackData};
 
 /// The rules, Numbers of refusal: judging uses 1 to 11, then 12.
 pub fn validate(image: &[u8], edition: Edition) -> Result<(), Refusal> {
@@ -27,8 +27,12 @@ pub fn footer(image: &[u8], edition: Edition) -> Result<Option<Footer>, Refusal>
 /// The question for a track; it uses 1 to 11, then 13.
 pub fn track(image: &[u8], edition: Edition, track: u32) -> Result<Track, Refusal> {
     let parsed = Image::parse(image, edition)?;
-    let data = parsed.track(track)?;
-    Ok(Track { cylinder: track / 2, head: track % 2, place: data.place, revolutions: u32::from(parsed.header.revolutions) })
+    Ok(describe_track(track, parsed.track(track)?))
+}
+
+/// The rules, Layout: what is said of a present track; it has R revolutions.
+pub(crate) fn describe_track(track: u32, data: &TrackData) -> Track {
+    Track { cylinder: track / 2, head: track % 2, place: data.place, revolutions: data.revolutions.len() as u32 }
 }
 
 /// The question for a revolution; it uses 1 to 11, then 13, then 14.
@@ -39,8 +43,13 @@ pub fn revolution(image: &[u8], edition: Edition, track: u32, revolution: u32) -
 /// The question for a revolution's flux: its part of the image, refused as the revolution is.
 pub fn flux(image: &[u8], edition: Edition, track: u32, revolution: u32) -> Result<Vec<u8>, Refusal> {
     let found = self::revolution(image, edition, track, revolution)?;
+    Ok(flux_of(image, &found))
+}
+
+/// The rules, Flux and time: a revolution's flux, that part of the image.
+pub(crate) fn flux_of(image: &[u8], found: &Revolution) -> Vec<u8> {
     let part = stretch(image, found.place, 2 * u64::from(found.words));
-    Ok(part.unwrap_or_default().to_vec())
+    part.unwrap_or_default().to_vec()
 }
 
 /// The question for a revolution's speed, none for duration 0; refused as the revolution is.

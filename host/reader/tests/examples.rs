@@ -1,5 +1,8 @@
 //! The examples of the rules, and every refusal with its position; expected values by hand.
 
+mod common;
+
+use common::{put, put_revolution, refused, revolutions_of_track_0};
 use scp_reader::Edition::{V1_4, V1_6};
 use scp_reader::*;
 
@@ -20,11 +23,6 @@ fn image_a() -> Vec<u8> {
     put(&mut image, 0x10, &[0xB0, 0x02, 0x00, 0x00]);
     image.extend(A_TRACK);
     image
-}
-
-/// Sets bytes of an image.
-fn put(image: &mut [u8], place: usize, bytes: &[u8]) {
-    image[place..place + bytes.len()].copy_from_slice(bytes);
 }
 
 /// Image A with some bytes changed.
@@ -64,37 +62,6 @@ fn two_tracks() -> Vec<u8> {
     put_revolution(&mut image, 748, [0, 2, 32]);
     put(&mut image, 760, &[0, 5, 0, 6, 0, 7, 0, 0]);
     image
-}
-
-/// Sets a revolution's duration, count and distance.
-fn put_revolution(image: &mut [u8], place: usize, fields: [u32; 3]) {
-    for (index, field) in fields.iter().enumerate() {
-        put(image, place + 4 * index, &field.to_le_bytes());
-    }
-}
-
-/// A read-only image of track 0 alone, whose revolution k has duration k and the one word k + 1.
-/// Track data header at this place, 4 + 12R bytes; then the flux, 2 bytes for each revolution; the checksum is right.
-fn revolutions_of_track_0(place: u32, count: u8) -> Vec<u8> {
-    let length = 4 + 12 * u32::from(count);
-    let start = place as usize;
-    let mut image = vec![0; start + length as usize];
-    put(&mut image, 0, &[b'S', b'C', b'P', 0x16, 0, count]);
-    put(&mut image, 0x10, &place.to_le_bytes());
-    put(&mut image, start, b"TRK\x00");
-    for number in 0..count {
-        let fields = [u32::from(number), 1, length + 2 * u32::from(number)];
-        put_revolution(&mut image, start + 4 + 12 * usize::from(number), fields);
-        image.extend([0, number + 1]);
-    }
-    let sum: u32 = image[0x10..].iter().map(|&byte| u32::from(byte)).sum();
-    put(&mut image, 0x0C, &sum.to_le_bytes());
-    image
-}
-
-/// A refusal.
-fn refused<T>(number: u32, position: u64) -> Result<T, Refusal> {
-    Err(Refusal { number, position })
 }
 
 /// The judgement and all questions refuse alike, and the rewrite and the replay too.
