@@ -99,6 +99,27 @@ uint64_t scp_speed(const uint8_t *image, size_t size, uint32_t edition, uint32_t
  * Refusals 1 to 11, 13, 15. */
 uint64_t scp_track_speed(const uint8_t *image, size_t size, uint32_t edition, uint32_t track, double *out, size_t places);
 
+/* Three direct functions: each answers as the one without "direct" in its name, but looks only at the header, one entry of the table,
+ * that track's header and the records of its revolutions. The refusals come in the order 1 to 6, 13, 9 to 11 of this track (11 of any
+ * of its revolutions), 14, 15. The footer, its strings and other tracks are not tested, so there may be an answer on an image that all
+ * others refuse; by 1.6 the last 48 bytes of an image with FLAGS bit 5 are kept free for the footer even so. Where the image passes 1
+ * to 11 the answer is the same; where a direct function refuses with one of 1 to 11 the other refuses, too, perhaps with another
+ * number. */
+
+/* A track to out, as scp_track, directly: 4 numbers.
+ * Refusals 1 to 6, 13, 9 to 11, 15. */
+uint64_t scp_direct_track(const uint8_t *image, size_t size, uint32_t edition, uint32_t track, uint64_t *out, size_t places);
+
+/* A revolution to out, as scp_revolution, directly: 3 numbers.
+ * Refusals 1 to 6, 13, 9 to 11, 14, 15. */
+uint64_t scp_direct_revolution(const uint8_t *image, size_t size, uint32_t edition, uint32_t track, uint32_t revolution, uint64_t *out,
+                               size_t places);
+
+/* The flux of a revolution to out, as scp_flux, directly: 2 bytes for each of its words.
+ * Refusals 1 to 6, 13, 9 to 11, 14, 15. */
+uint64_t scp_direct_flux(const uint8_t *image, size_t size, uint32_t edition, uint32_t track, uint32_t revolution, uint8_t *out,
+                         size_t places);
+
 /* The next interval of the flux from a word on, to out, 3 numbers: interval in ticks (0: no closing word is left), open ticks, the
  * number of the word to go on from. Refusals 17, 15. */
 uint64_t scp_step(const uint8_t *flux, size_t size, uint64_t word, uint64_t *out, size_t places);

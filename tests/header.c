@@ -28,7 +28,7 @@ struct sample {
     uint32_t sum;         /* of its bytes */
     uint32_t changed_sum; /* of its bytes with the new words */
     size_t size;
-    uint8_t image[712];
+    uint8_t image[712 + 48]; /* with room for a footer */
 };
 
 static void make(struct sample *a) {
@@ -61,6 +61,32 @@ static void ask(const struct sample *a) {
     EXPECT(scp_flux(image, size, edition, 0, 0, flux, 8) == 0 && memcmp(flux, image + offset, 8) == 0);
     EXPECT(scp_speed(image, size, edition, 0, 0, floats, 2) == 0 && floats[0] == 1.0 && floats[1] == 300.0);
     EXPECT(scp_track_speed(image, size, edition, 0, floats, 3) == 0 && floats[1] == 300.0 && floats[2] == 300.0);
+}
+
+/* The direct calls: as the others on a sound image, and with an answer where they refuse another track. */
+static void ask_directly(struct sample *a) {
+    uint8_t *image = a->image;
+    const size_t size = a->size, offset = a->table_end + 16;
+    const uint32_t edition = a->edition;
+    uint64_t out[4];
+    uint8_t flux[8];
+    EXPECT(scp_direct_track(image, a->table_end - 1, edition, 0, out, 4) == SCP_SIZE);
+    EXPECT(scp_direct_track(image, size, edition, 0, out, 4) == 0 && out[0] == 0 && out[1] == 0 && out[2] == a->table_end && out[3] == 1);
+    EXPECT(scp_direct_track(image, size, edition, 0, out, 3) == SCP_PLACES);
+    EXPECT(scp_direct_track(image, size, edition, 1, out, 3) == SCP_ABSENT);
+    EXPECT(scp_direct_revolution(image, size, edition, 0, 0, out, 3) == 0 && out[0] == 8000000 && out[1] == 4 && out[2] == offset);
+    EXPECT(scp_direct_revolution(image, size, edition, 0, 0, out, 2) == SCP_PLACES);
+    EXPECT(scp_direct_revolution(image, size, edition, 0, 1, out, 2) == SCP_REVOLUTION);
+    EXPECT(scp_direct_flux(image, size, edition, 0, 0, flux, 8) == 0 && memcmp(flux, image + offset, 8) == 0);
+    EXPECT(scp_direct_flux(image, size, edition, 0, 0, flux, 7) == SCP_PLACES);
+    EXPECT(scp_direct_flux(image, size, edition, 0, 1, flux, 7) == SCP_REVOLUTION);
+    image[0x14] = 1; /* an entry of track 1, which is not within start to end */
+    EXPECT(scp_track(image, size, edition, 0, out, 4) == SCP_SLOT + 256 && scp_flux(image, size, edition, 0, 0, flux, 8) == SCP_SLOT + 256);
+    EXPECT(scp_direct_track(image, size, edition, 1, out, 4) == SCP_SLOT + 256);
+    EXPECT(scp_direct_track(image, size, edition, 0, out, 4) == 0 && out[2] == a->table_end);
+    EXPECT(scp_direct_revolution(image, size, edition, 0, 0, out, 3) == 0 && out[2] == offset);
+    EXPECT(scp_direct_flux(image, size, edition, 0, 0, flux, 8) == 0 && memcmp(flux, image + offset, 8) == 0);
+    image[0x14] = 0;
 }
 
 static void convert(const uint8_t *flux) {
@@ -110,23 +136,35 @@ static void ask_by_the_other(struct sample *old) {
         EXPECT(scp_flux(image, size, edition, 0, 0, flux, 8) == SCP_TRACK);
         EXPECT(scp_speed(image, size, edition, 0, 0, floats, 2) == SCP_TRACK);
         EXPECT(scp_track_speed(image, size, edition, 0, floats, 3) == SCP_TRACK);
+        EXPECT(scp_direct_track(image, size, edition, 0, out, 4) == SCP_TRACK);
+        EXPECT(scp_direct_track(image, size, edition, 166, out, 4) == SCP_SLOT + 256 * 166);
+        EXPECT(scp_direct_revolution(image, size, edition, 0, 0, out, 3) == SCP_TRACK);
+        EXPECT(scp_direct_flux(image, size, edition, 0, 0, flux, 8) == SCP_TRACK);
         EXPECT(scp_rewrite(image, size, edition, 0, 0, 8000000, new_words, 8) == SCP_TRACK);
         EXPECT(scp_replay(image, size, calls, 14, new_words, 8, answers, 32) == 0);
         EXPECT(answers[0] == SCP_TRACK && answers[16] == SCP_ACCEPTED);
     }
+    EXPECT(scp_direct_track(image, size, SCP_EDITION_1_4, 166, out, 4) == SCP_ABSENT);
 }
 
-/* Where only the edition decides: FLAGS bit 5, and an end track of 167. */
+/* Where only the edition decides: FLAGS bit 5, which by 1.6 keeps the last 48 bytes free also where no footer is asked for, and an end
+ * track of 167. */
 static void decide(struct sample *a) {
     uint64_t out[13];
     a->image[0x08] |= 0x20;
     EXPECT(scp_validate(a->image, a->size, SCP_EDITION_1_6) == SCP_FOOTER);
     EXPECT(scp_validate(a->image, a->size, SCP_EDITION_1_4) == SCP_ACCEPTED);
     EXPECT(scp_footer(a->image, a->size, SCP_EDITION_1_4, out, 13) == 0 && out[0] == 0 && out[12] == 0);
+    EXPECT(scp_direct_track(a->image, a->size, SCP_EDITION_1_6, 0, out, 4) == SCP_TRACK);
+    EXPECT(scp_direct_track(a->image, a->size, SCP_EDITION_1_4, 0, out, 4) == 0);
+    EXPECT(scp_track(a->image, a->size + 48, SCP_EDITION_1_6, 0, out, 4) == SCP_FOOTER);
+    EXPECT(scp_direct_track(a->image, a->size + 48, SCP_EDITION_1_6, 0, out, 4) == 0);
     a->image[0x08] -= 0x20;
     a->image[0x07] = 167;
     EXPECT(scp_validate(a->image, a->size, SCP_EDITION_1_6) == SCP_ACCEPTED);
     EXPECT(scp_validate(a->image, a->size, SCP_EDITION_1_4) == SCP_SPAN);
+    EXPECT(scp_direct_track(a->image, a->size, SCP_EDITION_1_6, 0, out, 4) == 0);
+    EXPECT(scp_direct_track(a->image, a->size, SCP_EDITION_1_4, 0, out, 4) == SCP_SPAN);
     a->image[0x07] = 0;
 }
 
@@ -135,6 +173,7 @@ int main(void) {
     for (int i = 0; i < 2; i++) {
         make(&samples[i]);
         ask(&samples[i]);
+        ask_directly(&samples[i]);
         convert(samples[i].image + samples[i].table_end + 16);
         change(&samples[i]);
     }

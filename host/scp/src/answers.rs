@@ -100,6 +100,17 @@ impl Revolution {
     pub(crate) fn of_numbers([duration, words, offset]: [u64; 3]) -> Revolution {
         Revolution { duration: duration as u32, words: words as u32, offset }
     }
+
+    /// How many bytes its flux has.
+    pub(crate) fn flux_size(&self) -> usize {
+        2 * self.words as usize
+    }
+
+    /// Its flux, as that part of the image that it is of.
+    pub(crate) fn flux_in<'a>(&self, image: &'a [u8]) -> &'a [u8] {
+        let start = self.offset as usize;
+        &image[start..start + self.flux_size()]
+    }
 }
 
 /// The slowest and the fastest speed of a track, in rpm.

@@ -28,10 +28,13 @@
 //! assert_eq!(scp::revolution(&image, Edition::V1_4, 0, 0)?.offset, 696);
 //! # Ok::<(), scp::Refusal>(())
 //! ```
+//!
+//! The calls of [`direct`] do not open the image: they look at one track alone.
 #![deny(unsafe_code)]
 #![warn(missing_docs)]
 
 mod answers;
+pub mod direct;
 mod edition;
 pub mod example;
 #[allow(unsafe_code)]
@@ -164,9 +167,7 @@ pub fn revolution(image: &[u8], edition: Edition, track: u32, revolution: u32) -
 /// # Ok::<(), scp::Refusal>(())
 /// ```
 pub fn flux(image: &[u8], edition: Edition, track: u32, revolution: u32) -> Result<&[u8], Refusal> {
-    let found = self::revolution(image, edition, track, revolution)?;
-    let start = found.offset as usize;
-    Ok(&image[start..start + 2 * found.words as usize])
+    Ok(self::revolution(image, edition, track, revolution)?.flux_in(image))
 }
 
 /// Copies the flux of a revolution to the start of `out`, and says how many bytes it has.
@@ -179,7 +180,7 @@ pub fn flux(image: &[u8], edition: Edition, track: u32, revolution: u32) -> Resu
 /// ```
 pub fn copy_flux(image: &[u8], edition: Edition, track: u32, revolution: u32, out: &mut [u8]) -> Result<usize, Refusal> {
     Refusal::of_code(raw::flux(image, edition.number(), track, revolution, out))?;
-    Ok(2 * self::revolution(image, edition, track, revolution)?.words as usize)
+    Ok(self::revolution(image, edition, track, revolution)?.flux_size())
 }
 
 /// The drive speed of a revolution in rpm, or none for duration 0.

@@ -1,4 +1,4 @@
-//! The thirteen functions of the archive, as `include/scp.h` declares them: each returns 0, or a refusal's number + 256 x its position.
+//! The sixteen functions of the archive, as `include/scp.h` declares them: each returns 0, or a refusal's number + 256 x its position.
 //! An edition is a number: 14 is revision 1.4, every other one 1.6.
 //!
 //! This is the only module with `unsafe` code. Its functions are safe, since a slice's pointer and length are what the archive wants.
@@ -21,6 +21,25 @@ mod archive {
         pub fn scp_flux(image: *const u8, size: usize, edition: u32, track: u32, revolution: u32, out: *mut u8, places: usize) -> u64;
         pub fn scp_speed(image: *const u8, size: usize, edition: u32, track: u32, revolution: u32, out: *mut f64, places: usize) -> u64;
         pub fn scp_track_speed(image: *const u8, size: usize, edition: u32, track: u32, out: *mut f64, places: usize) -> u64;
+        pub fn scp_direct_track(image: *const u8, size: usize, edition: u32, track: u32, out: *mut u64, places: usize) -> u64;
+        pub fn scp_direct_revolution(
+            image: *const u8,
+            size: usize,
+            edition: u32,
+            track: u32,
+            revolution: u32,
+            out: *mut u64,
+            places: usize,
+        ) -> u64;
+        pub fn scp_direct_flux(
+            image: *const u8,
+            size: usize,
+            edition: u32,
+            track: u32,
+            revolution: u32,
+            out: *mut u8,
+            places: usize,
+        ) -> u64;
         pub fn scp_step(flux: *const u8, size: usize, word: u64, out: *mut u64, places: usize) -> u64;
         pub fn scp_intervals(flux: *const u8, size: usize, times: *mut u64, count: usize, out: *mut u64, places: usize) -> u64;
         pub fn scp_words(times: *const u64, count: usize, words: *mut u8, size: usize, out: *mut u64, places: usize) -> u64;
@@ -93,6 +112,24 @@ pub fn speed(image: &[u8], edition: u32, track: u32, revolution: u32, out: &mut 
 pub fn track_speed(image: &[u8], edition: u32, track: u32, out: &mut [f64]) -> u64 {
     // SAFETY: as in `header`.
     unsafe { archive::scp_track_speed(image.as_ptr(), image.len(), edition, track, out.as_mut_ptr(), out.len()) }
+}
+
+/// As `track`, but that the footer, its strings and other tracks are not tested.
+pub fn direct_track(image: &[u8], edition: u32, track: u32, out: &mut [u64]) -> u64 {
+    // SAFETY: as in `header`.
+    unsafe { archive::scp_direct_track(image.as_ptr(), image.len(), edition, track, out.as_mut_ptr(), out.len()) }
+}
+
+/// As `revolution`, but that the footer, its strings and other tracks are not tested.
+pub fn direct_revolution(image: &[u8], edition: u32, track: u32, revolution: u32, out: &mut [u64]) -> u64 {
+    // SAFETY: as in `header`.
+    unsafe { archive::scp_direct_revolution(image.as_ptr(), image.len(), edition, track, revolution, out.as_mut_ptr(), out.len()) }
+}
+
+/// As `flux`, but that the footer, its strings and other tracks are not tested.
+pub fn direct_flux(image: &[u8], edition: u32, track: u32, revolution: u32, out: &mut [u8]) -> u64 {
+    // SAFETY: as in `header`.
+    unsafe { archive::scp_direct_flux(image.as_ptr(), image.len(), edition, track, revolution, out.as_mut_ptr(), out.len()) }
 }
 
 /// Interval (0: none), open ticks, next word number: 3 numbers.

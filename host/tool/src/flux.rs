@@ -5,9 +5,8 @@ use scp::{Refusal, Step};
 use crate::failure::Failure;
 use crate::image::Image;
 
-/// Hands each interval of a revolution on in order, and gives the open time.
-pub fn each_interval(image: &Image, place: (u32, u32), take: impl FnMut(u64) -> Result<(), Failure>) -> Result<u64, Failure> {
-    let flux = image.ask_of(place, scp::flux)?;
+/// Hands each interval of flux of an image on in order, and gives the open time.
+pub fn each_interval(image: &Image, flux: &[u8], take: impl FnMut(u64) -> Result<(), Failure>) -> Result<u64, Failure> {
     walk(flux, |refusal| image.input.failure(refusal), take)
 }
 

@@ -49,6 +49,17 @@ impl Image {
         question(&self.input.bytes, self.edition, track, revolution).map_err(|refusal| self.refused(asked, refusal))
     }
 
+    /// The same by a direct call, which tests the header and the track alone.
+    pub fn ask_directly<'a, T>(
+        &'a self,
+        (track, revolution): (u32, u32),
+        question: impl FnOnce(&'a [u8], Edition, u32, u32) -> Result<T, Refusal>,
+    ) -> Result<T, Failure> {
+        let asked = Asked { track, revolution, size: 0 };
+        let told = |refusal| self.input.failure(reasons::of_direct(self.layout(), asked, refusal));
+        question(&self.input.bytes, self.edition, track, revolution).map_err(told)
+    }
+
     /// The failure that a refusal of what was asked of the image is.
     pub fn refused(&self, asked: Asked, refusal: Refusal) -> Failure {
         self.input.failure(reasons::of_asked(self.layout(), asked, refusal))

@@ -31,6 +31,7 @@ mod streams;
 mod times;
 mod undo;
 mod validate;
+mod way;
 
 use std::ffi::OsString;
 use std::io::Write;

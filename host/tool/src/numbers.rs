@@ -6,6 +6,9 @@ pub const TICKS_PER_MICROSECOND: u64 = 40;
 /// Ticks of 25 ns in a millisecond.
 pub const TICKS_PER_MILLISECOND: u64 = 40_000;
 
+/// Ticks of 25 ns in a minute.
+pub const TICKS_PER_MINUTE: f64 = 2_400_000_000.0;
+
 /// A 32-bit number, decimal or hexadecimal after 0x.
 pub fn number(text: &str) -> Result<u32, String> {
     let (digits, radix) = match text.strip_prefix("0x").or(text.strip_prefix("0X")) {

@@ -7,10 +7,11 @@ use crate::failure::Failure;
 use crate::flux::each_interval;
 use crate::image::Image;
 use crate::numbers::microseconds;
+use crate::way::Way;
 
 /// The command.
 pub const COMMAND: Command =
-    Command { name: "read", flags: &["--us", "--csv"], values: &["--edition"], help: include_str!("help/read.txt"), run };
+    Command { name: "read", flags: &["--us", "--csv", "--direct"], values: &["--edition"], help: include_str!("help/read.txt"), run };
 
 /// Prints the intervals, and the open time where there is some.
 fn run(arguments: &Arguments, out: &mut dyn Write) -> Result<(), Failure> {
@@ -19,12 +20,12 @@ fn run(arguments: &Arguments, out: &mut dyn Write) -> Result<(), Failure> {
     let (csv, us) = (arguments.has("--csv"), arguments.has("--us"));
     let unit = |ticks: u64| if us { microseconds(ticks) } else { ticks.to_string() };
     let image = Image::read(file, arguments.edition()?)?;
-    image.ask_of(place, scp::revolution)?;
+    let flux = Way::of(arguments).flux(&image, place)?;
     if csv {
         writeln!(out, "index,{}", if us { "microseconds" } else { "ticks" })?;
     }
     let mut index = 0_u64;
-    let open = each_interval(&image, place, |ticks| {
+    let open = each_interval(&image, flux, |ticks| {
         match csv {
             true => writeln!(out, "{index},{}", unit(ticks))?,
             false => writeln!(out, "{}", unit(ticks))?,

@@ -8,10 +8,11 @@ mod faults;
 
 use scp::{Reason, Refusal, ZERO_WORD_TICKS};
 
+use crate::editions::OneTrack;
 use crate::faults::{of_image, said};
 use crate::layout::Layout;
 use crate::numbers::{counted, grouped};
-pub use faults::{faults, Fault};
+pub use faults::{faults, faults_of_track, Fault};
 
 /// What was asked of a track, as far as a refusal may be about it.
 #[derive(Clone, Copy)]
@@ -34,6 +35,14 @@ pub fn of_asked(layout: Layout, asked: Asked, refusal: Refusal) -> String {
         _ => return of_image(layout.edition, layout.bytes, refusal),
     };
     said(refusal, text)
+}
+
+/// A refusal of a direct question about a revolution: what is said of the image is said of its header or of this track.
+pub fn of_direct(layout: Layout, asked: Asked, refusal: Refusal) -> String {
+    match refusal.reason {
+        Reason::Absent | Reason::Revolution => of_asked(layout, asked, refusal),
+        _ => of_image(OneTrack { edition: layout.edition, track: asked.track }, layout.bytes, refusal),
+    }
 }
 
 /// A refusal of a time.
@@ -109,6 +118,41 @@ mod tests {
         for (edition, met) in Edition::ALL.into_iter().zip(met) {
             let due = |number: usize| edition.has_footer() || !matches!(number, 7 | 8);
             assert!((0..13).all(|number| (met[number] > 0) == due(number)), "how often each number came up by {edition}: {met:?}");
+        }
+    }
+
+    /// What is said starts with the refusal, and goes on with what was asked for, where it is about a track.
+    #[test]
+    fn the_first_fault_of_a_track_is_what_a_direct_question_refuses() {
+        let mut met = [[0; 15]; 2];
+        for number in 0..CASES {
+            let bytes = case(9, number).bytes;
+            for (edition, met) in Edition::ALL.into_iter().zip(&mut met) {
+                let layout = Layout { bytes: &bytes, edition };
+                let tracks = layout.entries().map(|(track, _)| track).chain([0, 165, 166, 167, 168]);
+                for (track, revolution) in tracks.flat_map(|track| [(track, 0), (track, 255)]) {
+                    let verdict = scp::direct::revolution(&bytes, edition, track, revolution).err();
+                    let due = verdict.filter(|refusal| !matches!(refusal.reason, Reason::Absent | Reason::Revolution));
+                    let faults = faults_of_track(layout, track);
+                    assert_eq!(faults.first().map(|fault| fault.refusal), due, "case {number}, track {track} by {edition}: {faults:?}");
+                    met[verdict.map_or(0, |refusal| usize::from(refusal.reason.number()))] += 1;
+                    let Some(refusal) = verdict else { continue };
+                    let about = match refusal.reason {
+                        Reason::Slot | Reason::Absent => format!("track {track} "),
+                        Reason::Track => format!("track {track}: "),
+                        Reason::Flux => format!("track {track}, revolution "),
+                        Reason::Revolution => format!("revolution {revolution} of track {track}: "),
+                        _ => String::new(),
+                    };
+                    let start = format!("refused {} {:?}: {about}", refusal.reason.number(), refusal.reason);
+                    let said = of_direct(layout, Asked { track, revolution, size: 0 }, refusal);
+                    assert!(said.starts_with(&start), "case {number}, track {track} by {edition}: {said}");
+                }
+            }
+        }
+        for (edition, met) in Edition::ALL.into_iter().zip(met) {
+            let due = |number: usize| !matches!(number, 7 | 8 | 12);
+            assert!((0..15).all(|number| (met[number] > 0) == due(number)), "how often each number came up by {edition}: {met:?}");
         }
     }
 

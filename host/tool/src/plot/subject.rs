@@ -3,6 +3,7 @@
 use crate::failure::Failure;
 use crate::flux::each_interval;
 use crate::image::Image;
+use crate::way::Way;
 
 /// A revolution to be drawn.
 pub struct Subject {
@@ -28,13 +29,13 @@ pub struct Subject {
 
 impl Subject {
     /// Asks the library for all that is drawn.
-    pub fn of(image: &Image, (track, revolution): (u32, u32)) -> Result<Subject, Failure> {
+    pub fn of(image: &Image, way: Way, (track, revolution): (u32, u32)) -> Result<Subject, Failure> {
         let place = (track, revolution);
-        let on = image.ask_of(place, |bytes, edition, track, _| scp::track(bytes, edition, track))?;
-        let found = image.ask_of(place, scp::revolution)?;
-        let rpm = image.ask_of(place, scp::speed)?;
+        let on = way.track(image, place)?;
+        let found = way.revolution(image, place)?;
+        let rpm = way.speed(image, place)?;
         let mut intervals = Vec::new();
-        let open = each_interval(image, place, |ticks| {
+        let open = each_interval(image, way.flux(image, place)?, |ticks| {
             intervals.push(ticks);
             Ok(())
         })?;

@@ -22,17 +22,19 @@ impl Refused for Refusal {
 
 /// All faults that can be told apart; none for an image that the library accepts.
 pub fn faults(layout: Layout) -> Vec<Fault> {
-    let mut search = Search { layout, found: Vec::new() };
-    search.size();
-    if let Some(header) = layout.header() {
-        search.header(&header);
-        if !layout.is_cut() {
-            search.footer(&header);
-            search.tracks(&header);
-            search.sum(&header);
-        }
-    }
-    search.found
+    Search::of(layout, |search, header| {
+        search.footer(header);
+        layout.entries().for_each(|(track, entry)| search.track(header, track, entry));
+        search.sum(header);
+    })
+}
+
+/// Those that a direct question about a track looks for: of the length, of the header and of that track.
+pub fn faults_of_track(layout: Layout, track: u32) -> Vec<Fault> {
+    Search::of(layout, |search, header| {
+        let entries = layout.entries().filter(|&(present, _)| present == track);
+        entries.for_each(|(track, entry)| search.track(header, track, entry));
+    })
 }
 
 /// A search for faults.
@@ -41,7 +43,20 @@ struct Search<'a> {
     found: Vec<Fault>,
 }
 
-impl Search<'_> {
+impl<'a> Search<'a> {
+    /// The faults of the length and the header, and those that are found behind it where all of the file was read.
+    fn of(layout: Layout<'a>, behind: impl FnOnce(&mut Search<'a>, &Header)) -> Vec<Fault> {
+        let mut search = Search { layout, found: Vec::new() };
+        search.size();
+        if let Some(header) = layout.header() {
+            search.header(&header);
+            if !layout.is_cut() {
+                behind(&mut search, &header);
+            }
+        }
+        search.found
+    }
+
     /// Notes a fault at a string or a track.
     fn note_at(&mut self, reason: Reason, position: u32, text: String) {
         self.found.push(Fault { refusal: Refusal { reason, position: position.into() }, text });
@@ -142,13 +157,11 @@ impl Search<'_> {
         }
     }
 
-    /// The tracks, in order.
-    fn tracks(&mut self, header: &Header) {
-        for (track, entry) in self.layout.entries() {
-            self.slot(header, track);
-            if self.track_header(track, entry) {
-                self.flux(track, entry);
-            }
+    /// A track with an entry.
+    fn track(&mut self, header: &Header, track: u32, entry: u64) {
+        self.slot(header, track);
+        if self.track_header(track, entry) {
+            self.flux(track, entry);
         }
     }
 

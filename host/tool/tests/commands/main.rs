@@ -2,6 +2,7 @@
 
 mod bench;
 mod destinations;
+mod direct;
 mod disk;
 mod editions;
 mod list;

@@ -105,6 +105,7 @@ fn a_file_longer_than_any_image_is_told() {
     ];
     assert_eq!((run.status, run.out), (1, due.join("\n") + "\n"));
     assert!(bench.run("show b.scp").out.contains("at least 268,435,457 bytes"));
+    bench.fails("read b.scp 0 0 --direct", 1, "b.scp: refused 1 Size: more than 268,435,456 bytes\n");
 }
 
 #[test]
