@@ -1,2 +1,1 @@
 pub mod DirectLaws
-pub mod Agreement

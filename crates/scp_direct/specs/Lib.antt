@@ -1,2 +1,1 @@
 pub mod Direct
-pub mod Theorems

@@ -4,3 +4,5 @@ pub mod Validating
 pub mod Tracks
 pub mod Durations
 pub mod Speeds
+pub mod Direct
+pub mod LooksOnly

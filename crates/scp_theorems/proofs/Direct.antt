@@ -30,8 +30,8 @@ use Rattle.scp_lookup.proofs.Asking.{then-open, opens-then}
 use Rattle.scp_lookup.proofs.FoundLaws.{then-first}
 use Rattle.scp.specs.Answers.{Answer, refused, numbers, bytes, unless, trackValues, trackAnswer, revolutionValues, revolutionAnswer, fluxStart, fluxPart, fluxAnswer}
 use Rattle.scp.proofs.Answering.{unless-refused}
 use Rattle.scp_direct.specs.Direct.{directTrackQuestion, directRevolutionQuestion, directFound, directTrack, directRevolution, directPart, directStart, directFlux}
-use Rattle.scp_direct.specs.Theorems.{SameAnswers, Agrees, RefusedToo, Sound, RefusesSoundly}
+use Rattle.scp_theorems.specs.Direct.{SameAnswers, Agrees, RefusedToo, Sound, RefusesSoundly}
 
 -- a finding of a track with number 0 is none
 clear-track : (v : Edition) (b : List ℕ) (e t : ℕ) → Clear (trackFaultAt v b e t)

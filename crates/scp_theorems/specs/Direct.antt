@@ -1,13 +1,20 @@
--- What the direct calls are proved to have in common with the full ones, by any edition. The proofs stand in proofs/.
-use Prim.Native.Nat.{ℕ, _≤_}
+-- What the direct calls are proved to have in common with the full ones, and where they look, by any edition. The proofs stand in proofs/.
+use Prim.Native.Nat.{ℕ, _+_, _*_, _<_, _≤_}
 use mathlib.Core.Path.{_≡_}
 use mathlib.Core.Logic.{_≢_}
 use mathlib.Core.List.{List}
+use lib.ListN.{length}
+use Rattle.octets.specs.Numbers.{byteAt}
 use Rattle.refusals.specs.Refusals.{none}
 use Rattle.scp_fields.specs.declared.Edition.{Edition}
+use Rattle.scp_fields.specs.Editions.{tableAt}
+use Rattle.scp_fields.specs.Header.{trackEntry}
+use Rattle.scp_tracks.specs.Tracks.{headerSize}
 use Rattle.scp_open.specs.Opening.{openFault}
 use Rattle.scp.specs.Answers.{Answer, refused, trackAnswer, revolutionAnswer, fluxAnswer, fluxPart, fluxStart}
-use Rattle.scp_direct.specs.Direct.{directTrack, directRevolution, directFlux, directPart, directStart}
+use Rattle.scp_direct.specs.Direct.{directRevolutionQuestion, directTrack, directRevolution, directFlux, directPart, directStart}
+
+-- ---- beside the full calls
 
 -- D-6: each direct call answers what the full one answers, and hands out the same part of the image.
 pub record SameAnswers (v : Edition) (b : List ℕ) : Type 0 where
@@ -35,3 +42,28 @@ pub record Sound (v : Edition) (b : List ℕ) (n p : ℕ) : Type 0 where
 -- D-7: and the number is one of 1 to 11.
 abbrev pub RefusesSoundly : Type 0
 RefusesSoundly = (v : Edition) (b : List ℕ) (n p : ℕ) → 1 ≤ n → n ≤ 11 → Sound v b n p
+
+-- ---- where they look
+
+-- D-8: the n bytes from i on are the same in both.
+abbrev pub SameBytes : List ℕ → List ℕ → ℕ → ℕ → Type 0
+SameBytes b c i n = (j : ℕ) → i ≤ j → j < i + n → byteAt b j ≡ byteAt c j
+
+-- D-8: two images are the same where a direct call on track t looks: in length, header, its entry of the table, and its track data header, with
+-- the records of its revolutions.
+pub record SameTrack (t : ℕ) (b c : List ℕ) : Type 0 where
+  pub size : length b ≡ length c
+  pub header : SameBytes b c 0 tableAt
+  pub entry : SameBytes b c (tableAt + 4 * t) 4
+  pub track : SameBytes b c (trackEntry b t) (headerSize b)
+
+-- D-8: the same is answered of both, or refuses both, and the flux starts at the same offset.
+pub record SameLook (v : Edition) (t : ℕ) (b c : List ℕ) : Type 0 where
+  pub track : directTrack v b t ≡ directTrack v c t
+  pub revolution : (k : ℕ) → directRevolution v b t k ≡ directRevolution v c t k
+  pub refuses : (k : ℕ) → directRevolutionQuestion v b t k ≡ directRevolutionQuestion v c t k
+  pub start : (k : ℕ) → directStart v b t k ≡ directStart v c t k
+
+-- D-8: so it is of images that are the same there, whatever their other bytes.
+abbrev pub LooksOnly : Type 0
+LooksOnly = (v : Edition) (t : ℕ) (b c : List ℕ) → SameTrack t b c → SameLook v t b c
