@@ -240,6 +240,13 @@ def images():
 
 class Image:
     def __init__(self, b, edition):
+        self.read_header(b, edition)
+        if self.flagged:
+            self.read_footer()
+        self.entries = struct.unpack_from('<%dI' % edition.entries, self.b, 16)
+        self.tracks = {t: self.read_track(t, e) for t, e in enumerate(self.entries) if e}
+
+    def read_header(self, b, edition):
         self.b = b = bytes(b)
         self.edition = edition
         if not edition.table_end <= len(b) <= 1 << 28:
@@ -258,16 +265,12 @@ class Image:
         if self.heads > 2:
             raise Refused(6)
         self.footer = None
-        self.data_end = len(b)
-        if edition.footers and self.flags >> 5 & 1:
-            self.read_footer()
-        self.entries = struct.unpack_from('<%dI' % edition.entries, b, 16)
-        self.tracks = {t: self.read_track(t, e) for t, e in enumerate(self.entries) if e}
+        self.flagged = edition.footers and self.flags >> 5 & 1
+        self.data_end = len(b) - (48 if self.flagged else 0)
 
     def read_footer(self):
         if len(self.b) < 736 or self.b[-4:] != b'FPCS' or self.b[-5] < 0x16:
             raise Refused(7)
-        self.data_end -= 48
         *offsets, created, modified = struct.unpack_from('<6Iqq', self.b, self.data_end)
         self.footer = offsets, created, modified, self.b[-8:-4]
         for j, o in enumerate(offsets):
@@ -299,6 +302,17 @@ class Image:
     def judge(self):
         if self.stored != (0 if self.read_write else sum(self.b[16:]) % 2**32):
             raise Refused(12)
+
+
+class OneTrack(Image):
+    """The header and one track of an image, taken apart without a look at anything else."""
+
+    def __init__(self, b, edition, t):
+        self.read_header(b, edition)
+        entry, = struct.unpack_from('<I', self.b, 16 + 4 * t) if t < edition.entries else [0]
+        if not entry:
+            raise Refused(13)
+        self.entries, self.tracks = {t: entry}, {t: self.read_track(t, entry)}
 
 
 def judged(b, edition):
@@ -371,6 +385,24 @@ def questions(b, edition):
     return lines
 
 
+def directly(b, edition):
+    """What crates/scp_test prints of tracks and revolutions that it asks for directly."""
+    lines = []
+    for t in 0, 1, 165, 166, 168:
+        try:
+            i = OneTrack(b, edition, t)
+        except Refused as r:
+            refused = 'refused %d at %d' % (r.number, r.position)
+            lines.append('direct %d: %s turn 0: %s flux 0 turn 254: %s flux 0' % (t, refused, refused, refused))
+            continue
+        line = 'direct %d: %d %d %d %d' % (t, t // 2, t % 2, i.entries[t], i.turns)
+        for k in 0, 254:
+            found = i.tracks[t][k:k + 1]
+            line += ' turn %d: ' % k + ('%d %d %d flux %d' % (*found[0], 2 * found[0][1]) if found else 'refused 14 at 0 flux 0')
+        lines.append(line)
+    return lines
+
+
 def main(what):
     made = {'%s.scp' % name: bytes(b) for name, b in images().items()}
     data, args, stdin = ROOT / 'crates/scp_test/data', ROOT / 'crates/scp_test/args', ROOT / 'crates/scp_list/stdin'
@@ -388,7 +420,8 @@ def main(what):
         print('\n'.join(listing(A)))
     else:
         for name, b in made.items():
-            print('\n'.join(['== ' + name, *listing(b), *questions(b, V1_6), 'by 1.4: ' + judged(b, V1_4), *questions(b, V1_4)]))
+            print('\n'.join(['== ' + name, *listing(b), *questions(b, V1_6), *directly(b, V1_6), 'by 1.4: ' + judged(b, V1_4),
+                             *questions(b, V1_4), *directly(b, V1_4)]))
 
 
 if __name__ == '__main__':

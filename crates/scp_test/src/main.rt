@@ -1,4 +1,4 @@
-// Lists each image that an argument names, and asks it all the questions by revision 1.6 and some by 1.4. `stdout` is what
+// Lists each image that an argument names, and asks it all the questions by revision 1.6 and some by 1.4, directly, too. `stdout` is what
 // tests/scp_images.py works out, which shares nothing with this code.
 use flux::Filled;
 use refusals::Refusal;
@@ -266,6 +266,40 @@ fn ask(image: &[u8], edition: Edition) {
     }
 }
 
+// A revolution, asked for directly, and how long its flux is.
+fn direct_revolution(image: &[u8], edition: Edition, t: u32, k: u32) {
+    title(b" turn ", k);
+    match scp_direct::revolution(image, edition, t, k) {
+        RevolutionAnswer::Found(d) => revolution_fields(d),
+        RevolutionAnswer::Refused(r) => print_refusal(r),
+    }
+    field(
+        b" flux ",
+        scp_direct::flux(image, edition, t, k).len() as u64,
+    );
+}
+
+// A track, its first revolution and the last of 255, asked for directly.
+fn direct_track(image: &[u8], edition: Edition, t: u32) {
+    title(b"direct ", t);
+    match scp_direct::track(image, edition, t) {
+        TrackAnswer::Found(d) => track_fields(d),
+        TrackAnswer::Refused(r) => print_refusal(r),
+    }
+    direct_revolution(image, edition, t, 0);
+    direct_revolution(image, edition, t, 254);
+    newline();
+}
+
+// The direct calls answer on refused images, too.
+fn ask_directly(image: &[u8], edition: Edition) {
+    direct_track(image, edition, 0);
+    direct_track(image, edition, 1);
+    direct_track(image, edition, 165);
+    direct_track(image, edition, 166);
+    direct_track(image, edition, 168);
+}
+
 fn judge_by_1_4(image: &[u8]) {
     text(b"by 1.4:");
     match scp::validate(image, Edition::V1_4) {
@@ -278,8 +312,10 @@ fn judge_by_1_4(image: &[u8]) {
 fn show(image: &[u8]) {
     scp_listing::list(image);
     ask(image, Edition::V1_6);
+    ask_directly(image, Edition::V1_6);
     judge_by_1_4(image);
     ask(image, Edition::V1_4);
+    ask_directly(image, Edition::V1_4);
 }
 
 // Reads the file that argument i names, and shows it.

@@ -16,7 +16,7 @@ use Rattle.scp_direct.specs.Direct.{directRevolutionQuestion, directTrack, dire
 
 -- ---- beside the full calls
 
--- D-6: each direct call answers what the full one answers, and hands out the same part of the image.
+-- DI-6: each direct call answers what the full one answers, and hands out the same part of the image.
 pub record SameAnswers (v : Edition) (b : List ℕ) : Type 0 where
   pub track : (t : ℕ) → directTrack v b t ≡ trackAnswer v b t
   pub revolution : (t k : ℕ) → directRevolution v b t k ≡ revolutionAnswer v b t k
@@ -24,32 +24,32 @@ pub record SameAnswers (v : Edition) (b : List ℕ) : Type 0 where
   pub part : (t k : ℕ) → directPart v b t k ≡ fluxPart v b t k
   pub start : (t k : ℕ) → directStart v b t k ≡ fluxStart v b t k
 
--- D-6: so it is where the whole image passes 1 to 11.
+-- DI-6: so it is where the whole image passes 1 to 11.
 abbrev pub Agrees : Type 0
 Agrees = (v : Edition) (b : List ℕ) → openFault v b ≡ none → SameAnswers v b
 
--- D-7: the image does not open, and the full call answers with what refuses it, perhaps another number.
+-- DI-7: the image does not open, and the full call answers with what refuses it, perhaps another number.
 pub record RefusedToo (v : Edition) (b : List ℕ) (full : Answer) : Type 0 where
   pub opening : openFault v b ≢ none
   pub answer : full ≡ refused (openFault v b .number) (openFault v b .position)
 
--- D-7: so it is where a direct call refuses with number n at position p.
+-- DI-7: so it is where a direct call refuses with number n at position p.
 pub record Sound (v : Edition) (b : List ℕ) (n p : ℕ) : Type 0 where
   pub track : (t : ℕ) → directTrack v b t ≡ refused n p → RefusedToo v b (trackAnswer v b t)
   pub revolution : (t k : ℕ) → directRevolution v b t k ≡ refused n p → RefusedToo v b (revolutionAnswer v b t k)
   pub flux : (t k : ℕ) → directFlux v b t k ≡ refused n p → RefusedToo v b (fluxAnswer v b t k)
 
--- D-7: and the number is one of 1 to 11.
+-- DI-7: and the number is one of 1 to 11.
 abbrev pub RefusesSoundly : Type 0
 RefusesSoundly = (v : Edition) (b : List ℕ) (n p : ℕ) → 1 ≤ n → n ≤ 11 → Sound v b n p
 
 -- ---- where they look
 
--- D-8: the n bytes from i on are the same in both.
+-- DI-8: the n bytes from i on are the same in both.
 abbrev pub SameBytes : List ℕ → List ℕ → ℕ → ℕ → Type 0
 SameBytes b c i n = (j : ℕ) → i ≤ j → j < i + n → byteAt b j ≡ byteAt c j
 
--- D-8: two images are the same where a direct call on track t looks: in length, header, its entry of the table, and its track data header, with
+-- DI-8: two images are the same where a direct call on track t looks: in length, header, its entry of the table, and its track data header, with
 -- the records of its revolutions.
 pub record SameTrack (t : ℕ) (b c : List ℕ) : Type 0 where
   pub size : length b ≡ length c
@@ -57,13 +57,13 @@ pub record SameTrack (t : ℕ) (b c : List ℕ) : Type 0 where
   pub entry : SameBytes b c (tableAt + 4 * t) 4
   pub track : SameBytes b c (trackEntry b t) (headerSize b)
 
--- D-8: the same is answered of both, or refuses both, and the flux starts at the same offset.
+-- DI-8: the same is answered of both, or refuses both, and the flux starts at the same offset.
 pub record SameLook (v : Edition) (t : ℕ) (b c : List ℕ) : Type 0 where
   pub track : directTrack v b t ≡ directTrack v c t
   pub revolution : (k : ℕ) → directRevolution v b t k ≡ directRevolution v c t k
   pub refuses : (k : ℕ) → directRevolutionQuestion v b t k ≡ directRevolutionQuestion v c t k
   pub start : (k : ℕ) → directStart v b t k ≡ directStart v c t k
 
--- D-8: so it is of images that are the same there, whatever their other bytes.
+-- DI-8: so it is of images that are the same there, whatever their other bytes.
 abbrev pub LooksOnly : Type 0
 LooksOnly = (v : Edition) (t : ℕ) (b c : List ℕ) → SameTrack t b c → SameLook v t b c
