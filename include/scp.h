@@ -99,10 +99,10 @@ uint64_t scp_speed(const uint8_t *image, size_t size, uint32_t edition, uint32_t
  * Refusals 1 to 11, 13, 15. */
 uint64_t scp_track_speed(const uint8_t *image, size_t size, uint32_t edition, uint32_t track, double *out, size_t places);
 
-/* Three direct functions: each answers as the one without "direct" in its name, but looks only at the header, one entry of the table,
+/* Three direct functions: each answers as the one without "direct" in its name, but tests only the header, one entry of the table,
  * that track's header and the records of its revolutions. The refusals come in the order 1 to 6, 13, 9 to 11 of this track (11 of any
- * of its revolutions), 14, 15. The footer, its strings and other tracks are not tested, so there may be an answer on an image that all
- * others refuse; by 1.6 the last 48 bytes of an image with FLAGS bit 5 are kept free for the footer even so. Where the image passes 1
+ * of its revolutions), 14, 15. The footer, its strings and other tracks are not tested, so there may be an answer on an image that every
+ * other function refuses; by 1.6 the last 48 bytes of an image with FLAGS bit 5 are kept free for the footer even so. Where the image passes 1
  * to 11 the answer is the same; where a direct function refuses with one of 1 to 11 the other refuses, too, perhaps with another
  * number. */
 

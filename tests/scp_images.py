@@ -388,7 +388,7 @@ def questions(b, edition):
 def directly(b, edition):
     """What crates/scp_test prints of tracks and revolutions that it asks for directly."""
     lines = []
-    for t in 0, 1, 165, 166, 168:
+    for t in 0, 1, 165, 166, 167, 168, 4294967295:
         try:
             i = OneTrack(b, edition, t)
         except Refused as r:

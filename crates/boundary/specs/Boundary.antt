@@ -13,7 +13,7 @@ pub data Given (A : Type 0) : Type 0 where
 -- ---- what is returned
 
 -- C-1: a refusal as one number: its number + 256 x its position. The number is in the lowest byte, the position in the 56 bits
--- above; no refusal of a call on an image, or of writing one, is larger (`Uncut` of scp_boundary and of dsk_c, `WriteUncut` of dsk_c).
+-- above; no refusal of a call on an image, or of writing one, is larger (`Uncut` of scp_boundary and of dsk_c, `DirectUncut` of direct_coded, `WriteUncut` of dsk_c).
 abbrev pub packed : ℕ → ℕ → ℕ
 packed number position = number % 256 + 256 * (position % 72_057_594_037_927_936)
 

@@ -14,10 +14,10 @@ fitsAt l i vs = leb (i + length vs) (length l)
 abbrev pub copiedAt : {A : Type 0} → List A → ℕ → List A → List A
 copiedAt l i vs = cond (fitsAt l i vs) (sets l i vs) l
 
--- S-15: n elements from a start on; a part that runs past the end is cut.
+-- S-15, T-7: n elements from a start on; a part that runs past the end is cut.
 abbrev pub part : List ℕ → ℕ → ℕ → List ℕ
 part l start n = take n (drop start l)
 
--- S-15: where that part starts: 0 where the start is past the end, and the part empty.
+-- S-15, T-7: where that part starts: 0 where the start is past the end, and the part empty.
 abbrev pub partStart : List ℕ → ℕ → ℕ
 partStart l start = cond (leb start (length l)) start 0

@@ -25,7 +25,7 @@ use Rattle.scp_lookup.specs.declared.RevolutionAnswer.the-variants as revolutio
 use Rattle.scp_speed.specs.Speeds.{rpmOf, speedOf}
 use Rattle.scp_speed.specs.declared.Speed.the-variants as speed
 use Rattle.scp.specs.Validating.{wantedSum, badSum, validateFault}
-use Rattle.scp.specs.Answers.{Answer, refused, none, numbers, footer, speeds, bytes, unless, ofTrack, trackValues, trackAnswer, ofSpeedOnly, ofRevolution, revolutionValues, revolutionAnswer, fluxAnswer}
+use Rattle.scp.specs.Answers.{Answer, refused, none, footer, speeds, bytes, unless, ofTrack, trackValues, trackAnswer, ofSpeedOnly, ofRevolution, revolutionValues, revolutionAnswer, fluxAnswer}
 
 -- ---- an answer, unless it is refused
 

@@ -152,8 +152,8 @@ pub fn footer(image: &[u8], edition: Edition) -> FooterAnswer
 pub fn track(image: &[u8], edition: Edition, track: u32) -> TrackAnswer
     ensures { λ r. ⌜ ofTrack r ≡ trackAnswer edition (now (image .entry)) track ⌝ }
 {
-    let found = scp_lookup::find_track(image, edition, track);
-    scp_lookup::track_on(image, track, found)
+    let entry = scp_lookup::find_track(image, edition, track);
+    scp_lookup::track_on(image, track, entry)
 }
 
 // A revolution: duration, words, file offset of its flux.
@@ -168,8 +168,8 @@ pub fn flux(image: &[u8], edition: Edition, track: u32, revolution: u32) -> &[u8
     ensures { λ r. ⌜ now r ≡ fluxPart edition (now (image .entry)) track revolution ⌝ }
     ensures { λ r. ⌜ r .ptr ≡ (image .entry .ptr .0, fluxStart edition (now (image .entry)) track revolution + image .entry .ptr .1) ⌝ }
 {
-    let found = scp_lookup::find_revolution(image, edition, track, revolution);
-    scp_lookup::flux_on(image, found)
+    let numbers = scp_lookup::find_revolution(image, edition, track, revolution);
+    scp_lookup::flux_on(image, numbers)
 }
 
 // All intervals of a revolution at one go, at the start of the times.

@@ -15,6 +15,6 @@ Whole (footer offsets times versions) = Unit {0}
 Whole (speeds xs) = Unit {0}
 Whole (bytes start b) = Unit {0}
 
--- C-2: no refusal of a call on an image is cut.
+-- C-2: no refusal of a call of the book is cut.
 abbrev pub Uncut : Type 0
 Uncut = (b : List ℕ) (c : Call) → Whole (answer b c)

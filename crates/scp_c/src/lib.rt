@@ -82,9 +82,9 @@ pub extern "C" fn scp_flux(
     scp_coded::flux(image, edition, track, revolution, out)
 }
 
-// ---- an image, directly: without the walk over all of it
+// ---- an image, directly: without the walk over all of it. Refusals 1 to 6, 13, 9 to 11 of this track, 14, 15
 
-// A track: cylinder, head, file offset of its header, revolutions. Refusals 1 to 6, 13, 9 to 11 of this track.
+// A track: cylinder, head, file offset of its header, revolutions.
 #[no_mangle]
 pub extern "C" fn scp_direct_track(image: &[u8], edition: u32, track: u32, out: &mut [u64]) -> u64
     ensures { λ r. ⌜ r ≡ codeOf (within (length (now (out .entry))) (numbersOf (directTrack (editionOf edition) (now (image .entry)) track))) ⌝ }
@@ -93,7 +93,7 @@ pub extern "C" fn scp_direct_track(image: &[u8], edition: u32, track: u32, out: 
     direct_coded::track(image, edition, track, out)
 }
 
-// A revolution: duration, words, file offset of its flux. These refusals, then 14.
+// A revolution: duration, words, file offset of its flux.
 #[no_mangle]
 pub extern "C" fn scp_direct_revolution(
     image: &[u8],

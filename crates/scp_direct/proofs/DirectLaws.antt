@@ -1,16 +1,16 @@
 -- The chain of refusals of a direct call, and what is answered of what it finds.
 use Prim.Native.Nat.{ℕ, _+_, _*_, _<_, _≤_}
-use mathlib.Core.Path.{_≡_, refl, sym, ap, _∙_}
+use mathlib.Core.Path.{_≡_, refl, ap}
 use mathlib.Core.List.{List}
 use native.Mathlib.Omega.{arith}
 use lib.ListN.{length}
 use lib.Dec.{eqb, leb}
 use borrow.Author.Tests.{eq-eqb, ne-eqb, eqb-false, le-leb, lt-leb, leb-false}
 use Rattle.refusals.specs.declared.Refusal.{Refusal}
-use Rattle.refusals.specs.Refusals.{none, refusal, refuseIf}
+use Rattle.refusals.specs.Refusals.{none, refusal}
 use Rattle.refusals.proofs.Answers.{unless-refused, unless-found}
 use Rattle.refusals.proofs.Chain.{refuse-here, refuse-next, first-here, first-next}
-use Rattle.refusals.proofs.Finding.{both-clear, clear-both, pass, not-refused}
+use Rattle.refusals.proofs.Finding.{both-clear, not-refused}
 use Rattle.scp_fields.specs.declared.Edition.{Edition}
 use Rattle.scp_fields.specs.Editions.{slots}
 use Rattle.scp_fields.specs.Header.{revolutions, trackEntry}
@@ -93,18 +93,28 @@ module _ (v : Edition) (b : List ℕ) (t k : ℕ) where
   unfolding directFound directRevolution
   direct-revolution-is = revolution-told b t k (directRevolutionQuestion v b t k)
 
+  -- one that is not refused is found
+  pub direct-is-found : directRevolutionQuestion v b t k .number ≡ 0 → revolution-answer.Found (dataOf b (trackEntry b t) k) ≡ directFound v b t k
+  unfolding directFound
+  direct-is-found z = unless-found (directRevolutionQuestion v b t k) _ revolution-answer.Refused z refl
+
+  -- its track is there, and it is below R
+  pub direct-below : directRevolutionQuestion v b t k .number ≡ 0 → DirectThere v b t × (k < revolutions b)
+  unfolding directRevolutionQuestion
+  direct-below z =
+      let both = both-clear (directTrackQuestion v b t) (revolutionFault b k) z in
+      (direct-there v b t (both .0), leb-false (revolutions b) k (not-refused (leb (revolutions b) k) 13 0 none (both .1) .0))
+
   -- the flux of one that is found lies in the image
-  direct-within : (d : RevolutionData) → revolution-answer.Found d ≡ directFound v b t k → d .offset .0 + 2 * d .words ≤ length b
-  unfolding directFound directRevolutionQuestion
+  pub direct-within : (d : RevolutionData) → revolution-answer.Found d ≡ directFound v b t k → d .offset .0 + 2 * d .words ≤ length b
+  unfolding directFound
   direct-within d h =
       let told = told-found (directRevolutionQuestion v b t k) _ h in
-      let both = both-clear (directTrackQuestion v b t) (revolutionFault b k) (told .0) in
-      let there = direct-there v b t (both .0) in
-      let below = leb-false (revolutions b) k (not-refused (leb (revolutions b) k) 13 0 none (both .1) .0) in
-      let track = track-holds v b (trackEntry b t) t .0 (there .holds) (there .entry) in
+      let held = direct-below (told .0) in
+      let track = track-holds v b (trackEntry b t) t .0 (held .0 .holds) (held .0 .entry) in
       let offset = ap (λ (x : RevolutionData). x .offset .0) (told .1) in
       let words = ap (λ (x : RevolutionData). x .words) (told .1) in
-      let within = track .flux k below in
+      let within = track .flux k (held .1) in
       omega arith
 
   pub direct-start : startIn b (directFound v b t k) ≡ startOf (directFound v b t k)

@@ -2,16 +2,15 @@
 -- table, that track's header and the records of its revolutions.
 use Prim.Native.Nat.{ℕ}
 use mathlib.Core.List.{List}
-use lib.Dec.{eqb, leb}
 use Rattle.refusals.specs.declared.Refusal.{Refusal}
-use Rattle.refusals.specs.Refusals.{refusal, refuseIf, firstOf}
+use Rattle.refusals.specs.Refusals.{firstOf}
 use Rattle.refusals.specs.Refusals as refusals
 use Rattle.scp_fields.specs.declared.Edition.{Edition}
-use Rattle.scp_fields.specs.Editions.{slots}
 use Rattle.scp_fields.specs.Header.{trackEntry}
 use Rattle.scp_header.specs.HeaderFault.{headerFault}
 use Rattle.scp_tracks.specs.Tracks.{trackFault}
 use Rattle.scp_tracks.specs.Revolutions.{dataOf, revolutionFault}
+use Rattle.scp_lookup.specs.Questions.{absentThen}
 use Rattle.scp_lookup.specs.Lookups.{partOf, startOf}
 use Rattle.scp_lookup.specs.declared.Entry.{Entry}
 use Rattle.scp_lookup.specs.declared.Entry.the-variants as entry
@@ -21,11 +20,9 @@ use Rattle.scp.specs.Answers.{Answer, bytes, unless, trackValues, revolutionVal
 
 -- ---- what refuses
 
--- DI-1: a direct call on track t: 1 to 6, then 13 where t is above the edition's last track or has entry 0, then 9, 10 and 11 of this track.
+-- DI-1: a direct call on track t: 1 to 6, then 13, then 9, 10 and 11 of this track.
 unfoldable pub directTrackQuestion : Edition → List ℕ → ℕ → Refusal
-directTrackQuestion v b t =
-    firstOf (headerFault v b)
-    (refuseIf (leb (slots v) t) (refusal 13 0) (refuseIf (eqb (trackEntry b t) 0) (refusal 13 0) (trackFault v b t)))
+directTrackQuestion v b t = firstOf (headerFault v b) (absentThen v b t (trackFault v b t))
 
 -- DI-2: a direct call on revolution k of track t: these, then 14.
 unfoldable pub directRevolutionQuestion : Edition → List ℕ → ℕ → ℕ → Refusal

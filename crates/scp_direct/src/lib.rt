@@ -10,7 +10,7 @@ use scp_lookup::RevolutionAnswer;
 use scp_lookup::TrackAnswer;
 
 // The table's entry of a track: 1 to 6, then 13, then 9, 10 and 11 of this track.
-fn find_track(image: &[u8], edition: Edition, track: u32) -> Entry
+fn direct_entry(image: &[u8], edition: Edition, track: u32) -> Entry
     ensures { λ r. ⌜ r ≡ directEntry edition (now (image .entry)) track ⌝ }
 {
     let first = scp_header::header_fault(image, edition);
@@ -35,7 +35,7 @@ fn find_track(image: &[u8], edition: Edition, track: u32) -> Entry
 pub fn track(image: &[u8], edition: Edition, track: u32) -> TrackAnswer
     ensures { λ r. ⌜ ofTrack r ≡ directTrack edition (now (image .entry)) track ⌝ }
 {
-    let found = find_track(image, edition, track);
+    let found = direct_entry(image, edition, track);
     scp_lookup::track_on(image, track, found)
 }
 
@@ -43,7 +43,7 @@ pub fn track(image: &[u8], edition: Edition, track: u32) -> TrackAnswer
 pub fn revolution(image: &[u8], edition: Edition, track: u32, revolution: u32) -> RevolutionAnswer
     ensures { λ r. ⌜ ofRevolution r ≡ directRevolution edition (now (image .entry)) track revolution ⌝ }
 {
-    let found = find_track(image, edition, track);
+    let found = direct_entry(image, edition, track);
     scp_lookup::revolution_on(image, found, revolution)
 }
 
@@ -52,7 +52,7 @@ pub fn flux(image: &[u8], edition: Edition, track: u32, revolution: u32) -> &[u8
     ensures { λ r. ⌜ now r ≡ directPart edition (now (image .entry)) track revolution ⌝ }
     ensures { λ r. ⌜ r .ptr ≡ (image .entry .ptr .0, directStart edition (now (image .entry)) track revolution + image .entry .ptr .1) ⌝ }
 {
-    let entry = find_track(image, edition, track);
+    let entry = direct_entry(image, edition, track);
     let found = scp_lookup::revolution_on(image, entry, revolution);
     scp_lookup::flux_on(image, found)
 }

@@ -19,5 +19,5 @@ headerFault v b =
     none)))))
 
 -- RO-3: 1 to 6, then 7 and 8.
-unfoldable pub headFault : Edition → List ℕ → Refusal
-headFault v b = firstOf (headerFault v b) (footerFault v b)
+unfoldable pub headerFooterFault : Edition → List ℕ → Refusal
+headerFooterFault v b = firstOf (headerFault v b) (footerFault v b)

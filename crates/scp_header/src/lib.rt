@@ -3,7 +3,7 @@ ghost use mathlib.Core.Path.{_≡_};
 ghost use Prim.Native.Nat.{_≤_};
 ghost use lib.ListN.{length};
 ghost use Rattle.scp_header.specs.HeaderTests.{badSign, badWidth, badRevolutions, badSpan, badHeads};
-ghost use Rattle.scp_header.specs.HeaderFault.{headerFault, headFault};
+ghost use Rattle.scp_header.specs.HeaderFault.{headerFault, headerFooterFault};
 use refusals::Refusal;
 use scp_fields::Edition;
 
@@ -76,7 +76,7 @@ pub fn header_fault(image: &[u8], edition: Edition) -> Refusal
 
 // What refuses the header or the footer: the first of refusals 1 to 8, or number 0.
 pub fn check_header(image: &[u8], edition: Edition) -> Refusal
-    ensures { λ r. ⌜ r ≡ headFault edition (now (image .entry)) ⌝ }
+    ensures { λ r. ⌜ r ≡ headerFooterFault edition (now (image .entry)) ⌝ }
 {
     let first = header_fault(image, edition);
     if first.number != 0 {

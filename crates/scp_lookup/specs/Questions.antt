@@ -9,11 +9,13 @@ use Rattle.scp_fields.specs.Editions.{slots}
 use Rattle.scp_fields.specs.Header.{revolutions, trackEntry}
 use Rattle.scp_open.specs.Opening.{openFault}
 
--- RO-6, R-13: a call on track t: 1 to 11, then 13 where t is above the edition's last track or has entry 0, then the rest.
+-- R-13: 13 where track t is above the edition's last or has entry 0, then the rest.
+abbrev pub absentThen : Edition → List ℕ → ℕ → Refusal → Refusal
+absentThen v b t rest = refuseIf (leb (slots v) t) (refusal 13 0) (refuseIf (eqb (trackEntry b t) 0) (refusal 13 0) rest)
+
+-- RO-6: a call on track t: 1 to 11, then 13, then the rest.
 unfoldable pub trackThen : Edition → List ℕ → ℕ → Refusal → Refusal
-trackThen v b t rest =
-    firstOf (openFault v b)
-    (refuseIf (leb (slots v) t) (refusal 13 0) (refuseIf (eqb (trackEntry b t) 0) (refusal 13 0) rest))
+trackThen v b t rest = firstOf (openFault v b) (absentThen v b t rest)
 
 -- RO-6: the question for track t: 1 to 11, then 13.
 abbrev pub trackQuestion : Edition → List ℕ → ℕ → Refusal

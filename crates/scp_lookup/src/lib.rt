@@ -1,5 +1,6 @@
 // Looking up a track and a revolution of a SuperCard Pro image: refusals 1 to 11, then 13, then 14. Every call on a track or a revolution
-// goes by these two; each opens the image anew. And what a call answers of a track or a revolution that was found, whoever found it.
+// but the direct ones goes by these two; each opens the image anew. And what a call answers of a track or a revolution that was found, whoever
+// found it.
 ghost use mathlib.Core.Path.{_≡_};
 ghost use Prim.Native.Nat.{_+_};
 ghost use Rattle.copies.specs.Copying.{partStart};
@@ -24,6 +25,7 @@ pub struct TrackData {
     pub revolutions: u32,
 }
 
+// A track, or why it is refused.
 pub enum TrackAnswer {
     Found(TrackData),
     Refused(Refusal),
@@ -68,7 +70,7 @@ pub fn revolution_on(image: &[u8], found: Entry, k: u32) -> RevolutionAnswer
     }
 }
 
-// The flux of a revolution, as that part of the image, cut where the image ends.
+// The flux of a revolution, as that part of the image, cut where the image ends; the empty part at offset 0 where it starts past the end.
 pub fn flux_of(image: &[u8], d: RevolutionData) -> &[u8]
     ensures { λ r. ⌜ now r ≡ fluxOf (now (image .entry)) d ⌝ }
     ensures { λ r. ⌜ r .ptr ≡ (image .entry .ptr .0, partStart (now (image .entry)) (d .offset .0) + image .entry .ptr .1) ⌝ }

@@ -5,20 +5,20 @@ use mathlib.Core.List.{List}
 use borrow.Author.Tests.{eq-eqb, ne-eqb}
 use Rattle.refusals.specs.declared.Refusal.{Refusal}
 use Rattle.scp_fields.specs.declared.Edition.{Edition}
-use Rattle.scp_header.specs.HeaderFault.{headFault}
+use Rattle.scp_header.specs.HeaderFault.{headerFooterFault}
 use Rattle.scp_tracks.specs.Tracks.{tracksFault}
 use Rattle.scp_open.specs.Opening.{openFault, openedImage, refusedImage, openedOf}
 use Rattle.refusals.proofs.Chain.{first-here, first-next}
 
 module _ (v : Edition) (b : List ℕ) where
   -- what opening finds: the header's refusal, or else the tracks'
-  pub open-first : {f : Refusal} → f ≡ headFault v b → (f .number ≡ 0 → ⊥) → f ≡ openFault v b
+  pub open-first : {f : Refusal} → f ≡ headerFooterFault v b → (f .number ≡ 0 → ⊥) → f ≡ openFault v b
   unfolding openFault
-  open-first e n = first-here (headFault v b) (tracksFault v b) e n
+  open-first e n = first-here (headerFooterFault v b) (tracksFault v b) e n
 
-  pub open-next : {h f : Refusal} → h ≡ headFault v b → h .number ≡ 0 → f ≡ tracksFault v b → f ≡ openFault v b
+  pub open-next : {h f : Refusal} → h ≡ headerFooterFault v b → h .number ≡ 0 → f ≡ tracksFault v b → f ≡ openFault v b
   unfolding openFault
-  open-next e n q = first-next (headFault v b) (tracksFault v b) e n q
+  open-next e n q = first-next (headerFooterFault v b) (tracksFault v b) e n q
 
 -- f is what opening finds
 module _ (v : Edition) (b : List ℕ) {f : Refusal} (e : f ≡ openFault v b) where

@@ -20,7 +20,7 @@ use Rattle.scp_header.specs.HeaderTests.{badSize, badSign, badWidth, badRevolut
 use Rattle.scp_fields.specs.Footer.{footerAt, footerLeast, stringSlots, stringEntry}
 use Rattle.scp_footer.specs.Footer.{badFooter, zeroAt, zeroWithin, badStringOf, badString, stringFaultAt, stringFault, stringsFault, footerFault}
 use Rattle.scp_tracks.specs.Tracks.{headOf, headerSize, badSlot, badMark, badTrack, fluxPast, badFlux, trackFaultAt, trackFault, tracksFault}
-use Rattle.scp_header.specs.HeaderFault.{headerFault, headFault}
+use Rattle.scp_header.specs.HeaderFault.{headerFault, headerFooterFault}
 use Rattle.scp_open.specs.Opening.{openFault}
 use Rattle.scp_open.specs.Validity.{StringHolds, FooterHolds, TrackHolds, Opens, OpensExactly}
 use Rattle.refusals.proofs.Finding.{either, neither, from-none, none-from, not-refused, pass, not-excused, excuse, both-clear, clear-both, clear-below, Clear, clear-first, clear-from-all}
@@ -170,9 +170,9 @@ tracks-hold v b = clear-below (trackFault v b) _ (slots v) (λ t. track-holds v 
 
 module _ (v : Edition) (b : List ℕ) where
   pub opens : openFault v b .number ≡ 0 → Opens v b
-  unfolding openFault headFault headerFault badSize
+  unfolding openFault headerFooterFault headerFault badSize
   opens e =
-      let found = both-clear (headFault v b) (tracksFault v b) e in
+      let found = both-clear (headerFooterFault v b) (tracksFault v b) e in
       let head = both-clear (headerFault v b) (footerFault v b) (found .0) in
       let size = not-refused (badSize v b) 0 0 _ (head .0) in
       let sign = not-refused (badSign b) 1 0 _ (size .1) in
@@ -199,12 +199,12 @@ module _ (v : Edition) (b : List ℕ) where
       }
 
   pub clears : Opens v b → openFault v b .number ≡ 0
-  unfolding openFault headFault headerFault badSize
+  unfolding openFault headerFooterFault headerFault badSize
   clears h =
       let some : revolutions b ≢ 0 = λ z. omega arith in
       let turns : readWrite b && ltb 1 (revolutions b) ≡ false = never-both (readWrite b) _ (λ w. simp (h .readWriteOne w)) in
       let last : endTrack b ≤ lastTrack v = omega arith in
-      clear-both (headFault v b) (tracksFault v b)
+      clear-both (headerFooterFault v b) (tracksFault v b)
       (clear-both (headerFault v b) (footerFault v b)
       (pass (badSize v b) _ _ (simp (le-ltb _ _ (h .least), le-ltb _ _ (h .most)))
       (pass (badSign b) _ _ (simp (h .sign .0, h .sign .1, h .sign .2))
@@ -218,7 +218,7 @@ module _ (v : Edition) (b : List ℕ) where
 -- a finding of opening with number 0 is none
 pub clear-open : (v : Edition) (b : List ℕ) → Clear (openFault v b)
 unfolding openFault
-clear-open v b = clear-first (headFault v b) (tracksFault v b) (clear-from-all (trackFault v b) 0 (slots v))
+clear-open v b = clear-first (headerFooterFault v b) (tracksFault v b) (clear-from-all (trackFault v b) 0 (slots v))
 
 pub opens-exactly : OpensExactly
 opens-exactly v b = (λ e. opens v b (ap (λ (f : Refusal). f .number) e), λ h. clear-open v b (clears v b h))

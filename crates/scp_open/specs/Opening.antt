@@ -7,14 +7,14 @@ use Rattle.refusals.specs.declared.Refusal.{Refusal}
 use Rattle.refusals.specs.Refusals.{passes, firstOf}
 use Rattle.scp_fields.specs.declared.Edition.{Edition}
 use Rattle.scp_fields.specs.Header.{trackSlots, version, disk, revolutions, startTrack, endTrack, flags, width, heads, storedSum, entries}
-use Rattle.scp_header.specs.HeaderFault.{headFault}
+use Rattle.scp_header.specs.HeaderFault.{headerFooterFault}
 use Rattle.scp_tracks.specs.Tracks.{tracksFault}
 use Rattle.scp_open.specs.declared.Header.{Header}
 use Rattle.scp_open.specs.declared.Opened.{Opened}
 
 -- RO-4, T-1: what refuses the image: 1 to 8, then the tracks with 9 to 11.
 unfoldable pub openFault : Edition → List ℕ → Refusal
-openFault v b = firstOf (headFault v b) (tracksFault v b)
+openFault v b = firstOf (headerFooterFault v b) (tracksFault v b)
 
 -- T-1: the header as it is handed out.
 unfoldable pub headerOf : List ℕ → Header

@@ -13,6 +13,7 @@ use lib.Seq.{sets, length-sets, getD-take, getD-drop, ext-getD, take-length}
 use Rattle.octets.specs.Numbers.{byteAt, Octets, le32At, leBytes}
 use Rattle.octets.specs.Sums.{byteSum}
 use Rattle.octets.proofs.Numbers.{Apart, byte-apart, byte-inside, drop-sets, le-same, le-apart, le-length, le-read-same, le-octets, sets-octets}
+use Rattle.copies.proofs.Parts.{part-same}
 use Rattle.scp_fields.specs.declared.Edition.{Edition}
 use Rattle.scp_fields.specs.Header.{checksumAt, readWrite, storedSum, trueSum, trackEntry}
 use Rattle.scp_tracks.specs.Tracks.{revolutionAt, durationAt, countAt, fluxAt}
@@ -23,14 +24,6 @@ use Rattle.scp_sharing.specs.Sharing.{InNumbers, front, byItself}
 use Rattle.scp_sharing.proofs.Accepted.{Accepted, unset}
 
 -- ---- parts and stores
-
--- Two parts of n bytes are the same if their bytes are.
-pub part-same : (n : ℕ) (p q : List ℕ) (s r : ℕ) → s + n ≤ length p → r + n ≤ length q
-    → ((j : ℕ) → j < n → byteAt p (s + j) ≡ byteAt q (r + j)) → take n (drop s p) ≡ take n (drop r q)
-part-same n p q s r room space same =
-    ext-getD 0 (take n (drop s p)) (take n (drop r q)) (simp (length-take, length-drop) (omega arith)) (λ j l.
-    let m : j < n = omega (arith, simp length-take at l) in
-    rw (getD-take n (drop s p) j 0, getD-take n (drop r q) j 0, getD-drop s p j 0, getD-drop r q j 0) (same j m))
 
 -- A byte that is not in an extent lies before or behind it.
 outside : (i n j : ℕ) → (In j (extent i n) → ⊥) → Apart j 1 i n

@@ -24,7 +24,7 @@ use Rattle.scp_sharing.specs.Extents.{extent, In}
 use Rattle.scp_sharing.specs.Sharing.{Present, InNumbers, InHeader, Claimed, front, ownHeader, otherHeader, otherFlux, footer, string}
 use Rattle.scp_sharing.proofs.SharedBytes.{other-pair}
 use Rattle.scp_sharing.proofs.Accepted.{Accepted, unset}
-use Rattle.scp_rewrite.proofs.Frame.{part-same}
+use Rattle.copies.proofs.Parts.{part-same}
 use Rattle.scp_rewrite.specs.OneRewrite.{reading, put, Rewrites}
 
 module _ (v : Edition) (b q : List ℕ) (t k d : ℕ) (ws : List ℕ) (a : Accepted v b t k ws) (f : Rewrites b q t k d ws) where

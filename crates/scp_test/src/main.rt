@@ -297,7 +297,9 @@ fn ask_directly(image: &[u8], edition: Edition) {
     direct_track(image, edition, 1);
     direct_track(image, edition, 165);
     direct_track(image, edition, 166);
+    direct_track(image, edition, 167);
     direct_track(image, edition, 168);
+    direct_track(image, edition, u32::MAX);
 }
 
 fn judge_by_1_4(image: &[u8]) {

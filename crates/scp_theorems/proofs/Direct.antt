@@ -1,11 +1,12 @@
 -- Where the image opens, the tests that a direct call leaves out refuse nothing, so that its question is the full one; and the full question
 -- of an image that opens is refused by 13 or 14 alone.
-use Prim.Native.Nat.{ℕ, _<_, _≤_}
+use Prim.Native.Nat.{ℕ, _*_, _<_, _≤_}
 use mathlib.Core.Path.{_≡_, refl, sym, ap, _∙_}
 use mathlib.Core.Logic.{_≢_}
 use mathlib.Core.List.{List}
 use mathlib.Core.Bool.{Bool, true, false, cond}
 use native.Mathlib.Omega.{arith}
+use lib.ListN.{length}
 use lib.Dec.{eqb, leb}
 use borrow.Author.Tests.{leb-false}
 use Rattle.refusals.specs.declared.Refusal.{Refusal}
@@ -13,12 +14,13 @@ use Rattle.refusals.specs.Refusals.{none, refusal, passes, refuseIf, firstOf}
 use Rattle.refusals.specs.Refusals as refusals
 use Rattle.refusals.proofs.Chain.{first-next}
 use Rattle.refusals.proofs.Finding.{both-clear, from-clear, Clear, clear-refuse, holds-if}
+use Rattle.copies.proofs.Parts.{part-length}
 use Rattle.scp_fields.specs.declared.Edition.{Edition}
 use Rattle.scp_fields.specs.Editions.{slots}
 use Rattle.scp_fields.specs.Header.{revolutions, trackEntry}
 use Rattle.scp_footer.specs.Footer.{footerFault}
-use Rattle.scp_header.specs.HeaderFault.{headerFault, headFault}
-use Rattle.scp_tracks.specs.Tracks.{badSlot, badTrack, badFlux, trackFaultAt, trackFault, tracksFault}
+use Rattle.scp_header.specs.HeaderFault.{headerFault, headerFooterFault}
+use Rattle.scp_tracks.specs.Tracks.{countAt, badSlot, badTrack, badFlux, trackFaultAt, trackFault, tracksFault}
 use Rattle.scp_tracks.specs.Revolutions.{dataOf, revolutionFault}
 use Rattle.scp_open.specs.Opening.{openFault}
 use Rattle.scp_open.proofs.Opens.{clear-open}
@@ -28,10 +30,12 @@ use Rattle.scp_lookup.specs.declared.RevolutionAnswer.{RevolutionAnswer}
 use Rattle.scp_lookup.specs.declared.RevolutionAnswer.the-variants as revolution-answer
 use Rattle.scp_lookup.proofs.Asking.{then-open, opens-then}
 use Rattle.scp_lookup.proofs.FoundLaws.{then-first}
-use Rattle.scp.specs.Answers.{Answer, refused, numbers, bytes, unless, trackValues, trackAnswer, revolutionValues, revolutionAnswer, fluxStart, fluxPart, fluxAnswer}
+use Rattle.scp.specs.Answers.{Answer, refused, numbers, bytes, unless, trackValues, trackAnswer, revolutionValues, revolutionAnswer, fluxStart, fluxPart}
 use Rattle.scp.proofs.Answering.{unless-refused}
-use Rattle.scp_direct.specs.Direct.{directTrackQuestion, directRevolutionQuestion, directFound, directTrack, directRevolution, directPart, directStart, directFlux}
-use Rattle.scp_theorems.specs.Direct.{SameAnswers, Agrees, RefusedToo, Sound, RefusesSoundly}
+use Rattle.scp_theorems.proofs.Tracks.{open-most, counted}
+use Rattle.scp_direct.proofs.DirectLaws.{direct-is-found, direct-within}
+use Rattle.scp_direct.specs.Direct.{directTrackQuestion, directRevolutionQuestion, directFound, directTrack, directRevolution, directPart}
+use Rattle.scp_theorems.specs.Direct.{SameAnswers, Agrees, RefusedToo, Sound, RefusesSoundly, DirectFluxIsCounted}
 
 -- a finding of a track with number 0 is none
 clear-track : (v : Edition) (b : List ℕ) (e t : ℕ) → Clear (trackFaultAt v b e t)
@@ -48,6 +52,10 @@ clear-track v b e t = by (eqb e 0)
         (clear-refuse (badTrack v b e t) 9 t _
         (clear-refuse (badFlux v b e) 10 t none (λ z. refl)))
 
+-- an image that does not open is refused by one of 1 to 11
+open-one : (v : Edition) (b : List ℕ) → (openFault v b .number ≡ 0 → ⊥) → (1 ≤ openFault v b .number) × (openFault v b .number ≤ 11)
+open-one v b n = let most = open-most v b in (omega arith, omega arith)
+
 -- ---- an image that opens
 
 module _ (v : Edition) (b : List ℕ) (opens : openFault v b ≡ none) where
@@ -56,9 +64,9 @@ module _ (v : Edition) (b : List ℕ) (opens : openFault v b ≡ none) where
 
   -- neither its header nor a track is refused
   parts : (headerFault v b .number ≡ 0) × (tracksFault v b .number ≡ 0)
-  unfolding openFault headFault
+  unfolding openFault headerFooterFault
   parts =
-      let found = both-clear (headFault v b) (tracksFault v b) number in
+      let found = both-clear (headerFooterFault v b) (tracksFault v b) number in
       (both-clear (headerFault v b) (footerFault v b) (found .0) .0, found .1)
 
   track-clear : (t : ℕ) → t < slots v → trackFault v b t ≡ none
@@ -151,7 +159,7 @@ module _ (v : Edition) (b : List ℕ) (n p : ℕ) (least : 1 ≤ n) (most : n �
   too : (t : ℕ) (rest : Refusal) (a : Answer) → openFault v b ≢ none → RefusedToo v b (unless (trackThen v b t rest) a)
   too t rest a shut =
       let nonzero : openFault v b .number ≡ 0 → ⊥ = λ z. shut (clear-open v b z) in
-      record { opening = shut; answer = sym (unless-refused (trackThen v b t rest) a (then-open v b t rest refl nonzero) nonzero) }
+      record { opening = shut; number = open-one v b nonzero; answer = sym (unless-refused (trackThen v b t rest) a (then-open v b t rest refl nonzero) nonzero) }
 
   sound : Sound v b n p
   unfolding trackAnswer revolutionAnswer
@@ -170,3 +178,18 @@ module _ (v : Edition) (b : List ℕ) (n p : ℕ) (least : 1 ≤ n) (most : n �
 
 pub refuses-soundly : RefusesSoundly
 refuses-soundly = sound
+
+-- ---- their flux
+
+-- the flux of one that is not refused is as long as its count says
+pub direct-length : (v : Edition) (b : List ℕ) (t k : ℕ) → directRevolutionQuestion v b t k .number ≡ 0
+    → length (directPart v b t k) ≡ 2 * countAt b (trackEntry b t) k
+direct-length v b t k z =
+    let found = direct-is-found v b t k z in
+    ap (λ (r : RevolutionAnswer). length (partOf b r)) (sym found) ∙ part-length b _ _ (direct-within v b t k _ found)
+
+pub direct-flux-is-counted : DirectFluxIsCounted
+unfolding directRevolution
+direct-flux-is-counted v b t k duration words offset e =
+    let held = counted (directRevolutionQuestion v b t k) b t k duration words offset e in
+    direct-length v b t k (held .0) ∙ ap (λ (n : ℕ). 2 * n) (held .1)

@@ -6,8 +6,7 @@ use mathlib.Core.Logic.{_≢_}
 use mathlib.Core.List.{List, [], _∷_}
 use mathlib.Core.Bool.{Bool, true, false, cond}
 use native.Mathlib.Omega.{arith}
-use lib.ListN.{length, drop, length-drop}
-use lib.Seq.{length-take-le}
+use lib.ListN.{length}
 use lib.Dec.{ltb}
 use borrow.Author.Tests.{eqb-true, ne-eqb, le-ltb}
 use Rattle.refusals.specs.declared.Refusal.{Refusal}
@@ -16,20 +15,21 @@ use Rattle.refusals.proofs.Finding.{holds-if, holds-from}
 use Rattle.flux.specs.Coding.{wordsOf, badFluxSize, fluxLimit}
 use Rattle.flux.specs.Reading.{intervals, openTime}
 use Rattle.flux.specs.Answers.{placesRefused, wordsRefused, Filling, refuses, fills, inPlaces, reading}
+use Rattle.copies.proofs.Parts.{part-length}
 use Rattle.scp_fields.specs.declared.Edition.{Edition}
 use Rattle.scp_fields.specs.Header.{trackEntry}
 use Rattle.scp_fields.specs.Footer.{stringSlots}
 use Rattle.scp_footer.specs.Footer.{stringFaultAt, stringFault, footerFault}
-use Rattle.scp_tracks.specs.Tracks.{durationAt, countAt, fluxAt, tracksFault}
+use Rattle.scp_tracks.specs.Tracks.{countAt}
 use Rattle.scp_tracks.specs.declared.RevolutionData.{RevolutionData}
 use Rattle.scp_open.specs.Opening.{openFault}
 use Rattle.scp_open.proofs.Opens.{opens}
-use Rattle.scp_lookup.specs.Questions.{trackThen, revolutionQuestion}
+use Rattle.scp_lookup.specs.Questions.{revolutionQuestion}
 use Rattle.scp_lookup.specs.Lookups.{foundRevolution, fluxOf, partOf}
 use Rattle.scp_lookup.specs.declared.RevolutionAnswer.{RevolutionAnswer}
 use Rattle.scp_lookup.specs.declared.RevolutionAnswer.the-variants as revolution-answer
 use Rattle.scp_lookup.proofs.FoundLaws.{FoundData, revolution-there, revolution-found, found-data, found-refused, flux-within}
-use Rattle.scp.specs.Answers.{refused, numbers, revolutionAnswer, fluxPart, intervalsOf}
+use Rattle.scp.specs.Answers.{refused, numbers, unless, revolutionValues, revolutionAnswer, fluxPart, intervalsOf}
 use Rattle.scp_theorems.proofs.Numbers.{open-number, asked-number}
 use Rattle.scp_theorems.specs.Theorems.{TrackNumber, FluxIsCounted, NeverWords}
 
@@ -38,37 +38,32 @@ track-number t = record { whole = omega arith; side = omega arith }
 
 -- ---- the flux of a revolution is as long as its count says
 
+-- an answer with numbers is not refused, whatever the question, and its second number is the count
+pub counted : (q : Refusal) (b : List ℕ) (t k duration words offset : ℕ) → unless q (revolutionValues b t k) ≡ numbers (duration ∷ words ∷ offset ∷ [])
+    → (q .number ≡ 0) × (countAt b (trackEntry b t) k ≡ words)
+counted q b t k duration words offset e = go (passes q) refl e
+  where
+    go : (x : Bool) → passes q ≡ x → cond x (revolutionValues b t k) (refused (q .number) (q .position)) ≡ numbers (duration ∷ words ∷ offset ∷ [])
+        → (q .number ≡ 0) × (countAt b (trackEntry b t) k ≡ words)
+    go true p h = (eqb-true (q .number) 0 p, cc)
+    go false p h = let z : _≡_ {A = ℕ} 0 1 = cc in absurd (omega arith)
+
 module _ (v : Edition) (b : List ℕ) (t k : ℕ) where
-  -- an answer with numbers is not refused, and its second number is the count
-  counted : (duration words offset : ℕ) → revolutionAnswer v b t k ≡ numbers (duration ∷ words ∷ offset ∷ [])
-      → (revolutionQuestion v b t k .number ≡ 0) × (countAt b (trackEntry b t) k ≡ words)
-  unfolding revolutionAnswer
-  counted duration words offset e = go (passes (revolutionQuestion v b t k)) refl e
-    where
-      go : (x : Bool) → passes (revolutionQuestion v b t k) ≡ x
-          → cond x (numbers (durationAt b (trackEntry b t) k ∷ countAt b (trackEntry b t) k ∷ fluxAt b (trackEntry b t) k ∷ []))
-          (refused (revolutionQuestion v b t k .number) (revolutionQuestion v b t k .position)) ≡ numbers (duration ∷ words ∷ offset ∷ [])
-          → (revolutionQuestion v b t k .number ≡ 0) × (countAt b (trackEntry b t) k ≡ words)
-      go true q h = (eqb-true (revolutionQuestion v b t k .number) 0 q, cc)
-      go false q h = let z : _≡_ {A = ℕ} 0 1 = cc in absurd (omega arith)
-
   flux-length : {d : RevolutionData} → FoundData v b t k d → length (fluxOf b d) ≡ 2 * d .words
-  flux-length {d} h =
-      let within = flux-within v b t k h in
-      let rest = length-drop (d .offset .0) b in
-      length-take-le (2 * d .words) (drop (d .offset .0) b) (omega arith)
+  flux-length {d} h = part-length b (d .offset .0) (2 * d .words) (flux-within v b t k h)
 
-  part-length : revolutionQuestion v b t k .number ≡ 0 → length (fluxPart v b t k) ≡ 2 * countAt b (trackEntry b t) k
-  part-length z =
+  handed-length : revolutionQuestion v b t k .number ≡ 0 → length (fluxPart v b t k) ≡ 2 * countAt b (trackEntry b t) k
+  handed-length z =
       let found = revolution-found v b t k (revolution-there v b t k z) refl in
       ap (λ (s : List ℕ). length s) (ap (partOf b) (sym found)) ∙ flux-length (found-data v b t k found)
 
 pub flux-is-counted : FluxIsCounted
+unfolding revolutionAnswer
 flux-is-counted v b t k duration words offset e =
-    let held = counted v b t k duration words offset e in
-    part-length v b t k (held .0) ∙ ap (λ (n : ℕ). 2 * n) (held .1)
+    let held = counted (revolutionQuestion v b t k) b t k duration words offset e in
+    handed-length v b t k (held .0) ∙ ap (λ (n : ℕ). 2 * n) (held .1)
 
--- ---- what refuses a revolution has a number up to 14
+-- ---- what refuses an image has a number up to 11, and what refuses a revolution one up to 14
 
 abbrev Most : ℕ → Refusal → Type 0
 Most m f = f .number ≤ m
@@ -85,13 +80,16 @@ module _ (v : Edition) (b : List ℕ) where
       (holds-if (Most 8) _ _ _ (omega arith)
       (holds-from (Most 8) (omega arith) (stringFault v b) 0 stringSlots (λ j a z. string-most j)))
 
+  pub open-most : Most 11 (openFault v b)
+  open-most =
+      let foot = footer-most in
+      open-number (λ n. n ≤ 11) v b (omega arith) (omega arith) (omega arith) (omega arith) (omega arith) (omega arith) (omega arith)
+      (omega arith) (omega arith) (omega arith) (omega arith)
+
   revolution-most : (t k : ℕ) → Most 14 (revolutionQuestion v b t k)
   revolution-most t k =
-      let foot = footer-most in
-      let opened =
-      open-number (λ n. n ≤ 14) v b (omega arith) (omega arith) (omega arith) (omega arith) (omega arith) (omega arith) (omega arith)
-      (omega arith) (omega arith) (omega arith) (omega arith) in
-      asked-number (λ n. n ≤ 14) v b opened (omega arith) (omega arith) t k none (omega arith)
+      let opened = open-most in
+      asked-number (λ n. n ≤ 14) v b (omega arith) (omega arith) (omega arith) t k none (omega arith)
 
 -- ---- reading its intervals is never refused with 17
 

@@ -2,16 +2,16 @@
 use Prim.Native.Nat.{ℕ, _+_, _*_, _<_, _≤_}
 use mathlib.Core.Path.{_≡_}
 use mathlib.Core.Logic.{_≢_}
-use mathlib.Core.List.{List}
+use mathlib.Core.List.{List, [], _∷_}
 use lib.ListN.{length}
 use Rattle.octets.specs.Numbers.{byteAt}
 use Rattle.refusals.specs.Refusals.{none}
 use Rattle.scp_fields.specs.declared.Edition.{Edition}
-use Rattle.scp_fields.specs.Editions.{tableAt}
+use Rattle.scp_fields.specs.Editions.{tableAt, slots}
 use Rattle.scp_fields.specs.Header.{trackEntry}
 use Rattle.scp_tracks.specs.Tracks.{headerSize}
 use Rattle.scp_open.specs.Opening.{openFault}
-use Rattle.scp.specs.Answers.{Answer, refused, trackAnswer, revolutionAnswer, fluxAnswer, fluxPart, fluxStart}
+use Rattle.scp.specs.Answers.{Answer, refused, numbers, trackAnswer, revolutionAnswer, fluxAnswer, fluxPart, fluxStart}
 use Rattle.scp_direct.specs.Direct.{directRevolutionQuestion, directTrack, directRevolution, directFlux, directPart, directStart}
 
 -- ---- beside the full calls
@@ -31,6 +31,7 @@ Agrees = (v : Edition) (b : List ℕ) → openFault v b ≡ none → SameAnswers
 -- DI-7: the image does not open, and the full call answers with what refuses it, perhaps another number.
 pub record RefusedToo (v : Edition) (b : List ℕ) (full : Answer) : Type 0 where
   pub opening : openFault v b ≢ none
+  pub number : (1 ≤ openFault v b .number) × (openFault v b .number ≤ 11)
   pub answer : full ≡ refused (openFault v b .number) (openFault v b .position)
 
 -- DI-7: so it is where a direct call refuses with number n at position p.
@@ -43,27 +44,38 @@ pub record Sound (v : Edition) (b : List ℕ) (n p : ℕ) : Type 0 where
 abbrev pub RefusesSoundly : Type 0
 RefusesSoundly = (v : Edition) (b : List ℕ) (n p : ℕ) → 1 ≤ n → n ≤ 11 → Sound v b n p
 
+-- ---- their flux
+
+-- DI-5, T-8: the flux handed out is the words that the revolution counts, also on an image that does not open.
+abbrev pub DirectFluxIsCounted : Type 0
+DirectFluxIsCounted =
+    (v : Edition) (b : List ℕ) (t k duration words offset : ℕ) → directRevolution v b t k ≡ numbers (duration ∷ words ∷ offset ∷ [])
+    → length (directPart v b t k) ≡ 2 * words
+
 -- ---- where they look
 
 -- DI-8: the n bytes from i on are the same in both.
 abbrev pub SameBytes : List ℕ → List ℕ → ℕ → ℕ → Type 0
 SameBytes b c i n = (j : ℕ) → i ≤ j → j < i + n → byteAt b j ≡ byteAt c j
 
--- DI-8: two images are the same where a direct call on track t looks: in length, header, its entry of the table, and its track data header, with
--- the records of its revolutions.
-pub record SameTrack (t : ℕ) (b c : List ℕ) : Type 0 where
+-- DI-8: two images are the same where a direct call on track t looks: in length and header; if the table has the track, in its entry; and if
+-- that is not 0, in its track data header, with the records of its revolutions.
+pub record SameTrack (v : Edition) (t : ℕ) (b c : List ℕ) : Type 0 where
   pub size : length b ≡ length c
   pub header : SameBytes b c 0 tableAt
-  pub entry : SameBytes b c (tableAt + 4 * t) 4
-  pub track : SameBytes b c (trackEntry b t) (headerSize b)
+  pub entry : t < slots v → SameBytes b c (tableAt + 4 * t) 4
+  pub track : t < slots v → trackEntry b t ≢ 0 → SameBytes b c (trackEntry b t) (headerSize b)
 
--- DI-8: the same is answered of both, or refuses both, and the flux starts at the same offset.
+-- DI-8: the same is answered of both, or refuses both; the flux starts at the same offset and is as long, and where its bytes are the same it is
+-- answered the same.
 pub record SameLook (v : Edition) (t : ℕ) (b c : List ℕ) : Type 0 where
   pub track : directTrack v b t ≡ directTrack v c t
   pub revolution : (k : ℕ) → directRevolution v b t k ≡ directRevolution v c t k
   pub refuses : (k : ℕ) → directRevolutionQuestion v b t k ≡ directRevolutionQuestion v c t k
   pub start : (k : ℕ) → directStart v b t k ≡ directStart v c t k
+  pub size : (k : ℕ) → length (directPart v b t k) ≡ length (directPart v c t k)
+  pub flux : (k : ℕ) → SameBytes b c (directStart v b t k) (length (directPart v b t k)) → directFlux v b t k ≡ directFlux v c t k
 
 -- DI-8: so it is of images that are the same there, whatever their other bytes.
 abbrev pub LooksOnly : Type 0
-LooksOnly = (v : Edition) (t : ℕ) (b c : List ℕ) → SameTrack t b c → SameLook v t b c
+LooksOnly = (v : Edition) (t : ℕ) (b c : List ℕ) → SameTrack v t b c → SameLook v t b c

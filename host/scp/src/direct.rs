@@ -1,4 +1,4 @@
-//! One track without the whole walk: the calls for a track, a revolution and its flux that look only at the header, one entry of the
+//! One track without the whole walk: the calls for a track, a revolution and its flux that test only the header, one entry of the
 //! table, that track's header and the records of its revolutions.
 //!
 //! Their refusals come in the order 1 to 6, 13, 9 to 11 of this track (11 of any of its revolutions), 14, 15. The footer, its strings and

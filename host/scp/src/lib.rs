@@ -1,6 +1,6 @@
 //! SuperCard Pro (SCP) floppy flux images, revisions 1.4 and 1.6, by the proved library.
 //!
-//! Every call on an image takes its bytes and the [`Edition`] that it is read by, and opens it anew; it answers for every image and every
+//! Every call on an image takes its bytes and the [`Edition`] that it is read by, and tests it anew; it answers for every image and every
 //! argument. A [`Refusal`] has one of 18 numbers and a position, and then every lent buffer holds what it held. Nothing here copies an image.
 //!
 //! ```
@@ -29,7 +29,7 @@
 //! # Ok::<(), scp::Refusal>(())
 //! ```
 //!
-//! The calls of [`direct`] do not open the image: they look at one track alone.
+//! The calls of [`direct`] do not open the image: they test its header and one track alone.
 #![deny(unsafe_code)]
 #![warn(missing_docs)]
 

@@ -2,7 +2,6 @@
 use mathlib.Core.Path.{ap, _∙_}
 use Prim.Native.Nat.{ℕ, _+_}
 use borrow.Author.Needs.{needs}
-use Rattle.scp_lookup.specs.declared.RevolutionAnswer.{RevolutionAnswer}
 use Rattle.scp_lookup.specs.Lookups.{partOf, startIn}
 use Rattle.scp_lookup.proofs.FoundLaws.{found-start}
 use Rattle.scp.proofs.flux.Statement.{statement}

@@ -7,8 +7,8 @@ use Rattle.scp_direct.proofs.DirectLaws.{direct-on, direct-start}
 use Rattle.scp_direct.proofs.flux.Statement.{statement}
 use Rattle.scp_direct.proofs.flux.Tie as tie
 
-find-track-requires : tie.Need-find-track-requires
-find-track-requires c κs = search needs
+direct-entry-requires : tie.Need-direct-entry-requires
+direct-entry-requires c κs = search needs
 
 revolution-on-requires : tie.Need-revolution-on-requires
 revolution-on-requires c κs = search needs
@@ -19,11 +19,11 @@ flux-on-requires c κs = search needs
 returns : tie.Need-returns
 returns c =
     let at-on = c .before in
-    let at-find = at-on .before in
-    let a = at-find .before .before .args in
+    let at-entry = at-on .before in
+    let a = at-entry .before .before .args in
     let image = a .image in
     let found =
-    at-on .revolution-on .ensures ∙ ap (revolutionOn (image .now) (a .revolution)) (at-find .find-track .ensures)
+    at-on .revolution-on .ensures ∙ ap (revolutionOn (image .now) (a .revolution)) (at-entry .direct-entry .ensures)
     ∙ direct-on (a .edition) (image .now) (a .track) (a .revolution) in
     let start = ap (startIn (image .now)) found ∙ direct-start (a .edition) (image .now) (a .track) (a .revolution) in (
       c .flux-on .ensures .0 ∙ ap (partOf (image .now)) found,
@@ -31,4 +31,4 @@ returns c =
     )
 
 pub flux-spec : {M : Type 1} → statement M
-flux-spec = tie.close (tie.spec find-track-requires revolution-on-requires flux-on-requires returns)
+flux-spec = tie.close (tie.spec direct-entry-requires revolution-on-requires flux-on-requires returns)

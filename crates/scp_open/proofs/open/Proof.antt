@@ -1,7 +1,6 @@
 -- The first finding that refuses is the answer; where none does, header and table are read.
-use mathlib.Core.Path.{sym, ap, _∙_}
+use mathlib.Core.Path.{_∙_}
 use borrow.Author.Needs.{needs}
-use Rattle.refusals.specs.declared.Refusal.{Refusal}
 use Rattle.scp_open.proofs.OpenLaws.{open-first, open-next, opened-refused, opened-passes}
 use Rattle.scp_open.proofs.open.Statement.{statement}
 use Rattle.scp_open.proofs.open.Tie as tie

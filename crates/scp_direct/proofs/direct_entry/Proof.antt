@@ -5,13 +5,12 @@ use borrow.Author.Needs.{needs}
 use Rattle.refusals.specs.declared.Refusal.{Refusal}
 use Rattle.refusals.proofs.Finding.{is-refusal}
 use Rattle.scp_fields.specs.Editions.{slots}
-use Rattle.scp_fields.specs.Header.{trackEntry}
 use Rattle.scp_header.specs.HeaderFault.{headerFault}
-use Rattle.scp_tracks.specs.Tracks.{trackFaultAt, trackFault}
+use Rattle.scp_tracks.specs.Tracks.{trackFaultAt}
 use Rattle.scp_direct.specs.Direct.{directTrackQuestion}
 use Rattle.scp_direct.proofs.DirectLaws.{entry-refused, entry-found, by-header, by-slot, by-entry, by-track}
-use Rattle.scp_direct.proofs.find_track.Statement.{statement}
-use Rattle.scp_direct.proofs.find_track.Tie as tie
+use Rattle.scp_direct.proofs.direct_entry.Statement.{statement}
+use Rattle.scp_direct.proofs.direct_entry.Tie as tie
 
 header-fault-requires : tie.Need-header-fault-requires
 header-fault-requires c κs = search needs
@@ -75,8 +74,8 @@ returns-5 c =
     let at-entry = at-fault .before .before in
     entry-found _ _ _ (ap (λ (f : Refusal). f .number) (sym (asked at-fault)) ∙ c .if4 .left) (at-entry .track-entry .ensures)
 
-pub find-track-spec : {M : Type 1} → statement M
-find-track-spec =
+pub direct-entry-spec : {M : Type 1} → statement M
+direct-entry-spec =
     tie.close
     (tie.spec
     header-fault-requires
