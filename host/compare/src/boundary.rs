@@ -49,7 +49,7 @@ pub fn fill_two<T: Copy + Same + Debug>(
     let (values, made) = expected.unwrap_or_default();
     if made.len() > old.len() {
         let what = "how much is made".to_string();
-        return Err(Difference { what, reader: made.len().to_string(), library: format!("at most {}", old.len()) });
+        return Err(Difference { what, wanted: made.len().to_string(), library: format!("at most {}", old.len()) });
     }
     same("the buffer filled", &lent, &over(old, &made))?;
     same("the buffer lent", &out, &after(NUMBER, places, &values))?;

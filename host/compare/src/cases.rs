@@ -30,12 +30,15 @@ fn image_case(random: &mut Random) -> Case<Question> {
         let track = some_track(&bytes, random);
         asked.push(Asked::Track { track, places: places(random, 4) });
         asked.push(Asked::TrackSpeed { track, places: places(random, 3) });
+        asked.push(Asked::DirectTrack { track, places: places(random, 4) });
         for _ in 0..2 {
             let revolution = some_revolution(&bytes, random);
             let size = 2 * count(&bytes, track, revolution).min(1 << 20) as usize;
             asked.push(Asked::Revolution { track, revolution, places: places(random, 3) });
             asked.push(Asked::Flux { track, revolution, places: places(random, size) });
             asked.push(Asked::Speed { track, revolution, places: places(random, 2) });
+            asked.push(Asked::DirectRevolution { track, revolution, places: places(random, 3) });
+            asked.push(Asked::DirectFlux { track, revolution, places: places(random, size) });
             asked.push(rewrite(&bytes, track, revolution, random));
         }
     }
@@ -49,17 +52,19 @@ fn of_image() -> [Asked; 3] {
 }
 
 /// The questions about a track, with as many places as needed.
-fn of_track(track: u32) -> [Asked; 2] {
-    [Asked::Track { track, places: 4 }, Asked::TrackSpeed { track, places: 3 }]
+fn of_track(track: u32) -> [Asked; 3] {
+    [Asked::Track { track, places: 4 }, Asked::TrackSpeed { track, places: 3 }, Asked::DirectTrack { track, places: 4 }]
 }
 
 /// The questions about a revolution, with as many places as needed.
-fn of_revolution(image: &[u8], track: u32, revolution: u32) -> [Asked; 3] {
+fn of_revolution(image: &[u8], track: u32, revolution: u32) -> [Asked; 5] {
     let size = 2 * count(image, track, revolution).min(1 << 20) as usize;
     [
         Asked::Revolution { track, revolution, places: 3 },
         Asked::Flux { track, revolution, places: size },
         Asked::Speed { track, revolution, places: 2 },
+        Asked::DirectRevolution { track, revolution, places: 3 },
+        Asked::DirectFlux { track, revolution, places: size },
     ]
 }
 
@@ -100,8 +105,10 @@ pub fn answer_some(image: &[u8], edition: Edition, last_track: u32) {
     for question in asked.into_iter().map(|asked| asked.by(edition.number())) {
         assert_eq!(number(image, &question), Ok(0), "{question:?}");
     }
-    let absent = Asked::Revolution { track: last_track, revolution: self::revolutions(image), places: 3 };
-    assert_eq!(number(image, &absent.by(edition.number())), Ok(14));
+    let (track, revolution) = (last_track, self::revolutions(image));
+    for absent in [Asked::Revolution { track, revolution, places: 3 }, Asked::DirectRevolution { track, revolution, places: 3 }] {
+        assert_eq!(number(image, &absent.by(edition.number())), Ok(14));
+    }
 }
 
 /// The first, the middle and the last revolution of an image.

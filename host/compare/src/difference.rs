@@ -22,11 +22,11 @@ impl From<dsk_reader::Refusal> for Refusal {
     }
 }
 
-/// Where the two differ.
+/// Where the two differ: what the library is to have, by the reader or by a full call beside a direct one, and what it has.
 #[derive(Clone, Debug, PartialEq, Eq)]
 pub struct Difference {
     pub what: String,
-    pub reader: String,
+    pub wanted: String,
     pub library: String,
 }
 
@@ -50,12 +50,17 @@ pub fn over<T: Copy>(old: &[T], values: &[T]) -> Vec<T> {
 /// The reader's refusal number, where the library returned the same code.
 pub fn same_code<T>(expected: &Result<T, impl Copy + Into<Refusal>>, got: u64) -> Result<u32, Difference> {
     let refusal: Option<Refusal> = expected.as_ref().err().map(|&refusal| refusal.into());
-    let wanted = refusal.map_or(0, code);
-    if wanted != got {
-        let tell = |code: u64| format!("{code} (refusal {} at {})", code % 256, code / 256);
-        return Err(Difference { what: "the code returned".to_string(), reader: tell(wanted), library: tell(got) });
-    }
+    same_codes("the code returned", refusal.map_or(0, code), got)?;
     Ok(refusal.map_or(0, |refusal| refusal.number))
+}
+
+/// Whether a code is the one that it is to be.
+pub fn same_codes(what: &str, wanted: u64, got: u64) -> Result<(), Difference> {
+    if wanted == got {
+        return Ok(());
+    }
+    let tell = |code: u64| format!("{code} (refusal {} at {})", code % 256, code / 256);
+    Err(Difference { what: what.to_string(), wanted: tell(wanted), library: tell(got) })
 }
 
 /// Whether a lent buffer and its guards hold what they are to hold.
@@ -68,5 +73,5 @@ pub fn same<T: Copy + Same + Debug>(what: &str, lent: &Guarded<T>, wanted: &[T])
         Some(at) => format!("{:?} at {at}", values[at]),
         None => "a guard".to_string(),
     };
-    Err(Difference { what: what.to_string(), reader: tell(wanted), library: tell(lent.contents()) })
+    Err(Difference { what: what.to_string(), wanted: tell(wanted), library: tell(lent.contents()) })
 }

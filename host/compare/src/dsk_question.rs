@@ -136,7 +136,7 @@ pub fn same_answer<T: PartialEq + Debug>(
         return Ok(());
     }
     let tell = |answer: &Result<T, reader::Refusal>| format!("{answer:?}").chars().take(200).collect();
-    Err(Difference { what: what.to_string(), reader: tell(expected), library: tell(got) })
+    Err(Difference { what: what.to_string(), wanted: tell(expected), library: tell(got) })
 }
 
 // ---- what the wrapper and the boundary have, beside what the reader has

@@ -2,7 +2,8 @@
 //!
 //! A case is an input by chance (an image, flux, times, an image with a sequence of calls, or bytes that an image is written over) with the
 //! questions that are put to both.
-//! SCP images are laid out for either edition, and every question about one is put by both.
+//! SCP images are laid out for either edition, and every question about one is put by both. Beside a direct call stands the library's full
+//! one.
 //! Cases are numbered; a seed and a number give the same case again. The modules of DSK images are those with `dsk` in their name.
 
 #![forbid(unsafe_code)]
@@ -12,6 +13,7 @@ pub mod boundary;
 pub mod cases;
 pub mod count;
 pub mod difference;
+pub mod direct;
 pub mod dsk_cases;
 pub mod dsk_generate;
 pub mod dsk_image;

@@ -133,9 +133,9 @@ fn one<Q: Ask>(format: &Format<Q>, seed: u64, number: u64) -> Result<Count, Stri
                 let name = format.name;
                 return Err(format!(
                     "case {number} of seed {seed} (compare --format {name} --seed {seed} --case {number}): {smaller:?}\n\
-                     {}: the reader has {}, the library {}\n{}",
+                     {}: wanted is {}, the library has {}\n{}",
                     now.what,
-                    now.reader,
+                    now.wanted,
                     now.library,
                     dump(&bytes)
                 ));

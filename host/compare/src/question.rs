@@ -4,6 +4,7 @@ use crate::ask::Ask;
 use crate::boundary::{fill, fill_two, BYTE, FLOAT, NUMBER};
 use crate::count::Kind;
 use crate::difference::{same, same_code, Difference};
+use crate::direct::as_full;
 use crate::edition::{is_1_4, named};
 use crate::guarded::Guarded;
 use crate::sequence::{self, CALL, EDITION};
@@ -21,6 +22,9 @@ pub enum Asked {
     Flux { track: u32, revolution: u32, places: usize },
     Speed { track: u32, revolution: u32, places: usize },
     TrackSpeed { track: u32, places: usize },
+    DirectTrack { track: u32, places: usize },
+    DirectRevolution { track: u32, revolution: u32, places: usize },
+    DirectFlux { track: u32, revolution: u32, places: usize },
     Rewrite { track: u32, revolution: u32, duration: u32, words: Vec<u8> },
 }
 
@@ -39,6 +43,14 @@ impl Asked {
     pub fn by(self, edition: u32) -> Question {
         Question::OnImage { edition, asked: self }
     }
+
+    /// The kind that the call counts for, by revision 1.4.
+    fn kind(&self) -> usize {
+        match self {
+            Asked::DirectTrack { .. } | Asked::DirectRevolution { .. } | Asked::DirectFlux { .. } => DIRECT_CALLS,
+            _ => CALLS,
+        }
+    }
 }
 
 /// What the two agree on: the number of the call's refusal, 0 for none, and of a sequence that of each row.
@@ -53,9 +65,13 @@ const NUMBERS: &[u32] = &[0, 1, 2, 3, 4, 5, 6, 7, 8, 9, 10, 11, 12, 13, 14, 15, 
 
 /// Where the kinds of calls and of rows stand: by revision 1.4, and directly behind it by 1.6.
 const CALLS: usize = 0;
-const ROWS: usize = 2;
-const REPLAYS: usize = 4;
-const FLUX_AND_TIMES: usize = 5;
+const DIRECT_CALLS: usize = 2;
+const ROWS: usize = 4;
+const REPLAYS: usize = 6;
+const FLUX_AND_TIMES: usize = 7;
+
+/// What a direct call never gives: footer, strings and checksum are not looked at, and nothing is written.
+const NEVER_DIRECTLY: &[u32] = &[7, 8, 12, 16, 17, 18];
 
 /// A kind by an edition, where some numbers of refusal never come up.
 const fn kind(all: &'static str, one: &'static str, never: &'static [u32]) -> Kind {
@@ -70,10 +86,13 @@ fn by_edition(kind: usize, number: u64) -> usize {
 impl Ask for Question {
     type Agreed = Agreed;
 
-    /// Single calls on images and the rows of replays, each by both editions; replays as a whole; calls on flux and times.
+    /// Single calls on images, direct ones apart, and the rows of replays, each by both editions; replays as a whole; calls on flux and
+    /// times.
     const KINDS: &'static [Kind] = &[
         kind("single calls by 1.4 (none is refused with 7, 8 or 16)", "single call by 1.4", &[7, 8, 16]),
         kind("single calls by 1.6 (none is refused with 16)", "single call by 1.6", &[16]),
+        kind("direct calls by 1.4 (none is refused with 7, 8, 12, 16, 17 or 18)", "direct call by 1.4", NEVER_DIRECTLY),
+        kind("direct calls by 1.6 (none is refused with 7, 8, 12, 16, 17 or 18)", "direct call by 1.6", NEVER_DIRECTLY),
         kind("rows of replays by 1.4 (none is refused with 7, 8, 15 or 16)", "row of a replay by 1.4", &[7, 8, 15, 16]),
         kind("rows of replays by 1.6 (none is refused with 15 or 16)", "row of a replay by 1.6", &[15, 16]),
         Kind { all: "replays", one: "replay", numbers: &[0, 15], never: &[] },
@@ -86,7 +105,7 @@ impl Ask for Question {
 
     fn counted(&self, _bytes: &[u8], agreed: &Agreed) -> Vec<(usize, u32)> {
         match self {
-            Question::OnImage { edition, .. } => vec![(by_edition(CALLS, (*edition).into()), agreed.number)],
+            Question::OnImage { edition, asked } => vec![(by_edition(asked.kind(), (*edition).into()), agreed.number)],
             Question::Sequence { calls, .. } => {
                 let rows = calls.chunks_exact(CALL).zip(&agreed.rows);
                 let rows = rows.map(|(call, &number)| (by_edition(ROWS, call[EDITION]), number));
@@ -156,13 +175,10 @@ fn ask(image: &[u8], edition: u32, asked: &Asked) -> Result<u32, Difference> {
             let expected = reader::footer(image, by).map(|footer| footer_numbers(&footer).to_vec());
             fill(expected, places, NUMBER, |out| raw::footer(image, edition, out))
         }
-        Asked::Track { track, places } => {
-            let expected = reader::track(image, by, track).map(|track| track_numbers(&track).to_vec());
-            fill(expected, places, NUMBER, |out| raw::track(image, edition, track, out))
-        }
+        Asked::Track { track, places } => fill_track(reader::track(image, by, track), places, |out| raw::track(image, edition, track, out)),
         Asked::Revolution { track, revolution, places } => {
-            let expected = reader::revolution(image, by, track, revolution).map(|found| revolution_numbers(&found).to_vec());
-            fill(expected, places, NUMBER, |out| raw::revolution(image, edition, track, revolution, out))
+            let expected = reader::revolution(image, by, track, revolution);
+            fill_revolution(expected, places, |out| raw::revolution(image, edition, track, revolution, out))
         }
         Asked::Flux { track, revolution, places } => {
             let expected = reader::flux(image, by, track, revolution);
@@ -178,8 +194,53 @@ fn ask(image: &[u8], edition: u32, asked: &Asked) -> Result<u32, Difference> {
             let expected = reader::track_speed(image, by, track).map(floats);
             fill(expected, places, FLOAT, |out| raw::track_speed(image, edition, track, out))
         }
+        Asked::DirectTrack { .. } | Asked::DirectRevolution { .. } | Asked::DirectFlux { .. } => ask_directly(image, edition, asked),
         Asked::Rewrite { .. } => unreachable!("a rewrite is compared elsewhere"),
     }
+}
+
+/// The direct questions about an image; beside each the library is asked the full one.
+fn ask_directly(image: &[u8], edition: u32, asked: &Asked) -> Result<u32, Difference> {
+    let by = named(edition);
+    match *asked {
+        Asked::DirectTrack { track, places } => {
+            let calls = [raw::track, raw::direct_track];
+            let [full, direct] = calls.map(|call| move |out: &mut [u64]| call(image, edition, track, out));
+            as_full(places, NUMBER, full, direct)?;
+            fill_track(reader::direct::track(image, by, track), places, direct)
+        }
+        Asked::DirectRevolution { track, revolution, places } => {
+            let calls = [raw::revolution, raw::direct_revolution];
+            let [full, direct] = calls.map(|call| move |out: &mut [u64]| call(image, edition, track, revolution, out));
+            as_full(places, NUMBER, full, direct)?;
+            fill_revolution(reader::direct::revolution(image, by, track, revolution), places, direct)
+        }
+        Asked::DirectFlux { track, revolution, places } => {
+            let calls = [raw::flux, raw::direct_flux];
+            let [full, direct] = calls.map(|call| move |out: &mut [u8]| call(image, edition, track, revolution, out));
+            as_full(places, BYTE, full, direct)?;
+            fill(reader::direct::flux(image, by, track, revolution), places, BYTE, direct)
+        }
+        _ => unreachable!("only direct questions are asked directly"),
+    }
+}
+
+/// A track that the reader expects.
+fn fill_track(
+    expected: Result<reader::Track, reader::Refusal>,
+    places: usize,
+    call: impl FnOnce(&mut [u64]) -> u64,
+) -> Result<u32, Difference> {
+    fill(expected.map(|track| track_numbers(&track).to_vec()), places, NUMBER, call)
+}
+
+/// A revolution that the reader expects.
+fn fill_revolution(
+    expected: Result<reader::Revolution, reader::Refusal>,
+    places: usize,
+    call: impl FnOnce(&mut [u64]) -> u64,
+) -> Result<u32, Difference> {
+    fill(expected.map(|found| revolution_numbers(&found).to_vec()), places, NUMBER, call)
 }
 
 // ---- the values of answers, as the table of the boundary names them
@@ -256,21 +317,30 @@ mod tests {
     fn every_number_is_counted_but_those_that_never_come_up() {
         let all: Vec<u32> = (0..=18).collect();
         assert_eq!(scp::Reason::ALL.map(|reason| u32::from(reason.number())), all[1..]);
-        let by_editions = &Question::KINDS[..4];
+        let by_editions = &Question::KINDS[..6];
         assert!(by_editions.iter().all(|kind| kind.numbers == all));
         let never: Vec<&[u32]> = by_editions.iter().map(|kind| kind.never).collect();
-        assert_eq!(never, [&[7, 8, 16][..], &[16], &[7, 8, 15, 16], &[15, 16]]);
+        let direct: &[u32] = &[7, 8, 12, 16, 17, 18];
+        assert_eq!(never, [&[7, 8, 16], &[16][..], direct, direct, &[7, 8, 15, 16], &[15, 16]]);
     }
 
     #[test]
     fn calls_and_rows_count_for_the_edition_that_they_name() {
-        let call = |edition: u32| Asked::Validate.by(edition).counted(&[], &Agreed { number: 3, rows: Vec::new() });
-        assert_eq!([14, 16, 0].map(call), [vec![(0, 3)], vec![(1, 3)], vec![(1, 3)]]);
+        let counted = |asked: &Asked, edition| asked.clone().by(edition).counted(&[], &Agreed { number: 3, rows: Vec::new() });
+        let call = |asked| [14, 16, 0].map(|edition| counted(&asked, edition));
+        let (track, revolution, places) = (0, 0, 0);
+        for asked in [Asked::Validate, Asked::Track { track, places }, Asked::Flux { track, revolution, places }] {
+            assert_eq!(call(asked), [[(0, 3)], [(1, 3)], [(1, 3)]]);
+        }
+        let direct = [Asked::DirectRevolution { track, revolution, places }, Asked::DirectFlux { track, revolution, places }];
+        for asked in direct.into_iter().chain([Asked::DirectTrack { track, places }]) {
+            assert_eq!(call(asked), [[(2, 3)], [(3, 3)], [(3, 3)]]);
+        }
         let calls = [[0, 0, 0, 0, 0, 0, 14], [0, 0, 0, 0, 0, 0, 14 + (1 << 32)]].concat();
         let sequence = Question::Sequence { calls, words: Vec::new(), places: 32 };
-        assert_eq!(sequence.counted(&[], &Agreed { number: 0, rows: vec![1, 2] }), [(2, 1), (3, 2), (4, 0)]);
+        assert_eq!(sequence.counted(&[], &Agreed { number: 0, rows: vec![1, 2] }), [(4, 1), (5, 2), (6, 0)]);
         let names = Question::KINDS.iter().map(|kind| kind.one).collect::<Vec<_>>();
-        assert_eq!(names[..2], ["single call by 1.4", "single call by 1.6"]);
-        assert_eq!(names[2..], ["row of a replay by 1.4", "row of a replay by 1.6", "replay", "call on flux or times"]);
+        assert_eq!(names[..4], ["single call by 1.4", "single call by 1.6", "direct call by 1.4", "direct call by 1.6"]);
+        assert_eq!(names[4..], ["row of a replay by 1.4", "row of a replay by 1.6", "replay", "call on flux or times"]);
     }
 }

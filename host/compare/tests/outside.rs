@@ -86,11 +86,15 @@ fn the_largest_image_is_read_and_a_larger_refused() {
     let mut image = scp::example::image_a();
     image.resize(268_435_456, 0);
     let refused = |image: &[u8], asked: Asked| [edition::V1_4, edition::V1_6].map(|edition| number(image, &asked.clone().by(edition)));
-    for asked in [Asked::Validate, Asked::Revolution { track: 0, revolution: 0, places: 3 }] {
+    let (track, revolution, places) = (0, 0, 3);
+    let direct = Asked::DirectRevolution { track, revolution, places };
+    for asked in [Asked::Validate, Asked::Revolution { track, revolution, places }, direct.clone()] {
         assert_eq!(refused(&image, asked), [Ok(0), Ok(0)]);
     }
     image.push(0);
-    assert_eq!(refused(&image, Asked::Validate), [Ok(1), Ok(1)]);
+    for asked in [Asked::Validate, direct] {
+        assert_eq!(refused(&image, asked), [Ok(1), Ok(1)]);
+    }
     assert_eq!(scp::header(&image, V1_6).unwrap_err().reason, Reason::Size);
 }
 

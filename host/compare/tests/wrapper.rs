@@ -1,10 +1,10 @@
 //! The wrapper's structs and enums beside the reader's, on generated images by both editions: nothing is lost or mixed up on the way from
 //! the numbers.
 
-use scp::{Answer, Call, Edition, Refusal};
+use scp::{direct, Answer, Call, Edition, Refusal};
 use scp_compare::edition::named;
 use scp_compare::generate;
-use scp_compare::image::flux_bytes;
+use scp_compare::image::{entry_at, flux_bytes, number_at};
 use scp_compare::random::Random;
 use scp_reader as reader;
 
@@ -111,13 +111,28 @@ fn agree(image: &[u8], edition: Edition, k: u32) {
     assert_eq!(plain(scp::copy_flux(image, edition, t, k, &mut room)).map(|size| room[..size].to_vec()), flux);
 }
 
+/// The direct calls of the wrapper answer about the image as those of the reader do, for its first track with an entry.
+fn agree_directly(image: &[u8], edition: Edition, k: u32) {
+    let v = by(edition);
+    let t = (0..168).find(|&track| number_at(image, entry_at(track)) != 0).unwrap_or(168) as u32;
+    assert_eq!(plain(direct::track(image, edition, t)), other(reader::direct::track(image, v, t)).map(track));
+    assert_eq!(plain(direct::revolution(image, edition, t, k)), other(reader::direct::revolution(image, v, t, k)).map(revolution));
+    let flux = other(reader::direct::flux(image, v, t, k));
+    assert_eq!(plain(direct::flux(image, edition, t, k)).map(<[u8]>::to_vec), flux);
+    let mut room = vec![9; 3000];
+    assert_eq!(plain(direct::copy_flux(image, edition, t, k, &mut room)).map(|size| room[..size].to_vec()), flux);
+}
+
 #[test]
 fn answers_are_those_of_the_reader() {
     let mut random = Random::new(2);
     for _ in 0..4000 {
         let image = generate::image(&mut random);
         let k = random.below(3) as u32;
-        Edition::ALL.into_iter().for_each(|edition| agree(&image, edition, k));
+        for edition in Edition::ALL {
+            agree(&image, edition, k);
+            agree_directly(&image, edition, k);
+        }
     }
 }
 
