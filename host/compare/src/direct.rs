@@ -1,4 +1,4 @@
-//! A direct call of the library beside its full one (D-6, D-7).
+//! A direct call of the library beside its full one (DI-6, DI-7).
 
 use crate::difference::{same, same_codes, Difference};
 use crate::guarded::{Guarded, Same};
