@@ -1,4 +1,4 @@
-//! Direct calls (D-1 to D-7): they answer on images that are faulty elsewhere, refuse in their own order, and do as the full calls do where
+//! Direct calls (DI-1 to DI-7): they answer on images that are faulty elsewhere, refuse in their own order, and do as the full calls do where
 //! the image opens.
 
 use scp::Edition::{self, V1_4, V1_6};
