@@ -30,20 +30,24 @@ fn image_case(random: &mut Random) -> Case<Question> {
         let track = some_track(&bytes, random);
         asked.push(Asked::Track { track, places: places(random, 4) });
         asked.push(Asked::TrackSpeed { track, places: places(random, 3) });
-        asked.push(Asked::DirectTrack { track, places: places(random, 4) });
         for _ in 0..2 {
             let revolution = some_revolution(&bytes, random);
             let size = 2 * count(&bytes, track, revolution).min(1 << 20) as usize;
             asked.push(Asked::Revolution { track, revolution, places: places(random, 3) });
             asked.push(Asked::Flux { track, revolution, places: places(random, size) });
             asked.push(Asked::Speed { track, revolution, places: places(random, 2) });
-            asked.push(Asked::DirectRevolution { track, revolution, places: places(random, 3) });
-            asked.push(Asked::DirectFlux { track, revolution, places: places(random, size) });
             asked.push(rewrite(&bytes, track, revolution, random));
         }
     }
     let by_both = |asked: Asked| Edition::ALL.map(|edition| asked.clone().by(some_number(edition, random)));
-    Case { bytes, questions: asked.into_iter().flat_map(by_both).collect() }
+    Case { bytes, questions: with_direct(asked).into_iter().flat_map(by_both).collect() }
+}
+
+/// These questions, and the direct one for each that has one.
+fn with_direct(mut asked: Vec<Asked>) -> Vec<Asked> {
+    let direct: Vec<Asked> = asked.iter().filter_map(Asked::directly).collect();
+    asked.extend(direct);
+    asked
 }
 
 /// The questions about an image as a whole, with as many places as needed.
@@ -52,19 +56,17 @@ fn of_image() -> [Asked; 3] {
 }
 
 /// The questions about a track, with as many places as needed.
-fn of_track(track: u32) -> [Asked; 3] {
-    [Asked::Track { track, places: 4 }, Asked::TrackSpeed { track, places: 3 }, Asked::DirectTrack { track, places: 4 }]
+fn of_track(track: u32) -> [Asked; 2] {
+    [Asked::Track { track, places: 4 }, Asked::TrackSpeed { track, places: 3 }]
 }
 
 /// The questions about a revolution, with as many places as needed.
-fn of_revolution(image: &[u8], track: u32, revolution: u32) -> [Asked; 5] {
+fn of_revolution(image: &[u8], track: u32, revolution: u32) -> [Asked; 3] {
     let size = 2 * count(image, track, revolution).min(1 << 20) as usize;
     [
         Asked::Revolution { track, revolution, places: 3 },
         Asked::Flux { track, revolution, places: size },
         Asked::Speed { track, revolution, places: 2 },
-        Asked::DirectRevolution { track, revolution, places: 3 },
-        Asked::DirectFlux { track, revolution, places: size },
     ]
 }
 
@@ -80,7 +82,7 @@ fn every_question(image: &[u8]) -> Vec<Asked> {
         let absent = if present { &[beyond, beyond + 1, 255, 256, u32::MAX][..] } else { &[beyond + 1] };
         asked.extend(there.chain(absent.iter().copied()).flat_map(|revolution| of_revolution(image, track, revolution)));
     }
-    asked
+    with_direct(asked)
 }
 
 /// The questions about an image, some of its tracks, and some revolutions of each.
@@ -90,7 +92,7 @@ pub fn some_questions(image: &[u8], tracks: &[u32], revolutions: &[u32]) -> Vec<
         asked.extend(of_track(track));
         asked.extend(revolutions.iter().flat_map(|&revolution| of_revolution(image, track, revolution)));
     }
-    asked
+    with_direct(asked)
 }
 
 /// Asks both about the first, the middle and the last revolution of the first, a middle and the last track, rewrites one on each, and asks for

@@ -44,6 +44,16 @@ impl Asked {
         Question::OnImage { edition, asked: self }
     }
 
+    /// The direct call with the same arguments; nothing where there is none.
+    pub fn directly(&self) -> Option<Asked> {
+        match *self {
+            Asked::Track { track, places } => Some(Asked::DirectTrack { track, places }),
+            Asked::Revolution { track, revolution, places } => Some(Asked::DirectRevolution { track, revolution, places }),
+            Asked::Flux { track, revolution, places } => Some(Asked::DirectFlux { track, revolution, places }),
+            _ => None,
+        }
+    }
+
     /// The kind that the call counts for, by revision 1.4.
     fn kind(&self) -> usize {
         match self {
@@ -329,13 +339,13 @@ mod tests {
         let counted = |asked: &Asked, edition| asked.clone().by(edition).counted(&[], &Agreed { number: 3, rows: Vec::new() });
         let call = |asked| [14, 16, 0].map(|edition| counted(&asked, edition));
         let (track, revolution, places) = (0, 0, 0);
-        for asked in [Asked::Validate, Asked::Track { track, places }, Asked::Flux { track, revolution, places }] {
+        let full = [Asked::Revolution { track, revolution, places }, Asked::Flux { track, revolution, places }];
+        for asked in full.into_iter().chain([Asked::Track { track, places }]) {
+            assert_eq!(call(asked.directly().unwrap()), [[(2, 3)], [(3, 3)], [(3, 3)]]);
             assert_eq!(call(asked), [[(0, 3)], [(1, 3)], [(1, 3)]]);
         }
-        let direct = [Asked::DirectRevolution { track, revolution, places }, Asked::DirectFlux { track, revolution, places }];
-        for asked in direct.into_iter().chain([Asked::DirectTrack { track, places }]) {
-            assert_eq!(call(asked), [[(2, 3)], [(3, 3)], [(3, 3)]]);
-        }
+        assert_eq!(call(Asked::Validate), [[(0, 3)], [(1, 3)], [(1, 3)]]);
+        assert_eq!(Asked::Validate.directly(), None);
         let calls = [[0, 0, 0, 0, 0, 0, 14], [0, 0, 0, 0, 0, 0, 14 + (1 << 32)]].concat();
         let sequence = Question::Sequence { calls, words: Vec::new(), places: 32 };
         assert_eq!(sequence.counted(&[], &Agreed { number: 0, rows: vec![1, 2] }), [(4, 1), (5, 2), (6, 0)]);
