@@ -1,21 +1,23 @@
 -- The chain of refusals of a direct call, and what is answered of what it finds.
-use Prim.Native.Nat.{ℕ, _+_, _*_, _<_, _≤_}
-use mathlib.Core.Path.{_≡_, refl, ap}
+use Prim.Native.Nat.{ℕ, _+_, _-_, _*_, _<_, _≤_}
+use mathlib.Core.Path.{_≡_, refl, sym, ap, _∙_}
 use mathlib.Core.List.{List}
+use mathlib.Core.Bool.{Bool, true, false, not}
 use native.Mathlib.Omega.{arith}
 use lib.ListN.{length}
 use lib.Dec.{eqb, leb}
-use borrow.Author.Tests.{eq-eqb, ne-eqb, eqb-false, le-leb, lt-leb, leb-false}
+use borrow.Author.Tests.{eq-eqb, ne-eqb, eqb-true, eqb-false, le-leb, lt-leb, leb-false}
 use Rattle.refusals.specs.declared.Refusal.{Refusal}
-use Rattle.refusals.specs.Refusals.{none, refusal}
+use Rattle.refusals.specs.Refusals.{none, refusal, passes, refuseIf, firstOf}
+use Rattle.refusals.specs.Search.{firstFrom}
 use Rattle.refusals.proofs.Answers.{unless-refused, unless-found}
 use Rattle.refusals.proofs.Chain.{refuse-here, refuse-next, first-here, first-next}
-use Rattle.refusals.proofs.Finding.{both-clear, not-refused}
+use Rattle.refusals.proofs.Finding.{both-clear, not-refused, Clear, clear-refuse}
 use Rattle.scp_fields.specs.declared.Edition.{Edition}
 use Rattle.scp_fields.specs.Editions.{slots}
 use Rattle.scp_fields.specs.Header.{revolutions, trackEntry}
 use Rattle.scp_header.specs.HeaderFault.{headerFault}
-use Rattle.scp_tracks.specs.Tracks.{trackFault}
+use Rattle.scp_tracks.specs.Tracks.{badSlot, badTrack, badFlux, trackFaultAt, trackFault, walkEnd, tracksFaultIn}
 use Rattle.scp_tracks.specs.Revolutions.{dataOf, revolutionFault}
 use Rattle.scp_tracks.specs.declared.RevolutionData.{RevolutionData}
 use Rattle.scp_open.proofs.Opens.{track-holds}
@@ -28,6 +30,38 @@ use Rattle.scp.proofs.Answering.{track-told, revolution-told, flux-told, flux-u
 use Rattle.scp_direct.specs.Direct.{directTrackQuestion, directRevolutionQuestion, directEntry, directFound, directTrack, directRevolution, directFlux}
 
 -- ---- a track
+
+-- a finding of a track with number 0 is none
+pub clear-track : (v : Edition) (b : List ℕ) (e t : ℕ) → Clear (trackFaultAt v b e t)
+unfolding trackFaultAt refuseIf
+clear-track v b e t = by (eqb e 0)
+  where
+    by : (x : Bool)
+        → Clear
+        (refuseIf x none
+        (refuseIf (badSlot b t) (refusal 9 t) (refuseIf (badTrack v b e t) (refusal 10 t) (refuseIf (badFlux v b e) (refusal 11 t) none))))
+    by true = λ z. refl
+    by false =
+        clear-refuse (badSlot b t) 8 t _
+        (clear-refuse (badTrack v b e t) 9 t _
+        (clear-refuse (badFlux v b e) 10 t none (λ z. refl)))
+
+-- what comes after a finding is none where nothing does
+first-alone : (f : Refusal) → Clear f → firstOf f none ≡ f
+unfolding firstOf refuseIf
+first-alone f clear = by (passes f) refl
+  where
+    by : (x : Bool) → passes f ≡ x → refuseIf (not x) f none ≡ f
+    by true p = sym (clear (eqb-true (f .number) 0 p))
+    by false p = refl
+
+-- a walk over one track that the table has
+one-walk : (v : Edition) (b : List ℕ) (t : ℕ) → t < slots v → tracksFaultIn v b t (t + 1) ≡ trackFault v b t
+unfolding firstFrom
+one-walk v b t h =
+    let end : walkEnd v (t + 1) ≡ t + 1 = simp (le-leb (t + 1) (slots v) (omega arith)) in
+    let one : walkEnd v (t + 1) - t ≡ 1 = omega arith in
+    ap (firstFrom (trackFault v b) t) one ∙ first-alone (trackFault v b t) (clear-track v b (trackEntry b t) t)
 
 module _ (v : Edition) (b : List ℕ) (t : ℕ) where
   pub entry-refused : {f : Refusal} → f ≡ directTrackQuestion v b t → (f .number ≡ 0 → ⊥) → entry.Refused f ≡ directEntry v b t
@@ -50,11 +84,11 @@ module _ (v : Edition) (b : List ℕ) (t : ℕ) where
         first-next (headerFault v b) _ refl z
         (refuse-next (leb (slots v) t) _ _ (lt-leb (slots v) t h) (refuse-here (eqb (trackEntry b t) 0) _ _ (eq-eqb (trackEntry b t) 0 a) e))
 
-    pub by-track : {f : Refusal} → t < slots v → (trackEntry b t ≡ 0 → ⊥) → f ≡ trackFault v b t → f ≡ directTrackQuestion v b t
+    pub by-track : {f : Refusal} → t < slots v → (trackEntry b t ≡ 0 → ⊥) → f ≡ tracksFaultIn v b t (t + 1) → f ≡ directTrackQuestion v b t
     unfolding directTrackQuestion
     by-track h a e =
         first-next (headerFault v b) _ refl z
-        (refuse-next (leb (slots v) t) _ _ (lt-leb (slots v) t h) (refuse-next (eqb (trackEntry b t) 0) _ _ (ne-eqb (trackEntry b t) 0 a) e))
+        (refuse-next (leb (slots v) t) _ _ (lt-leb (slots v) t h) (refuse-next (eqb (trackEntry b t) 0) _ _ (ne-eqb (trackEntry b t) 0 a) (e ∙ one-walk v b t h)))
 
   -- the header is not refused, and the track is there and not refused
   pub record DirectThere : Type 0 where

@@ -17,14 +17,15 @@ fn direct_entry(image: &[u8], edition: Edition, track: u32) -> Entry
     if first.number != 0 {
         return Entry::Refused(first);
     }
-    if scp_fields::slots(edition) <= track as usize {
+    let t = track as usize;
+    if scp_fields::slots(edition) <= t {
         return Entry::Refused(refusals::refuse(refusals::ABSENT, 0));
     }
     let entry = scp_fields::track_entry(image, track);
     if entry == 0 {
         return Entry::Refused(refusals::refuse(refusals::ABSENT, 0));
     }
-    let fault = scp_tracks::track_fault(image, edition, entry, track);
+    let fault = scp_open::tracks_fault(image, edition, t, t + 1);
     if fault.number != 0 {
         return Entry::Refused(fault);
     }

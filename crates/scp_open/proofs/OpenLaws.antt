@@ -2,11 +2,14 @@
 use Prim.Native.Nat.{ℕ}
 use mathlib.Core.Path.{_≡_, sym, ap, _∙_}
 use mathlib.Core.List.{List}
-use borrow.Author.Tests.{eq-eqb, ne-eqb}
+use native.Mathlib.Omega.{arith}
+use borrow.Author.Tests.{eq-eqb, ne-eqb, le-leb}
 use Rattle.refusals.specs.declared.Refusal.{Refusal}
 use Rattle.scp_fields.specs.declared.Edition.{Edition}
 use Rattle.scp_header.specs.HeaderFault.{headerFooterFault}
-use Rattle.scp_tracks.specs.Tracks.{tracksFault}
+use Rattle.scp_fields.specs.Editions.{slots}
+use Rattle.refusals.specs.Search.{firstFrom}
+use Rattle.scp_tracks.specs.Tracks.{trackFault, walkEnd, tracksFaultIn, tracksFault}
 use Rattle.scp_open.specs.Opening.{openFault, openedImage, refusedImage, openedOf}
 use Rattle.refusals.proofs.Chain.{first-here, first-next}
 
@@ -16,9 +19,15 @@ module _ (v : Edition) (b : List ℕ) where
   unfolding openFault
   open-first e n = first-here (headerFooterFault v b) (tracksFault v b) e n
 
-  pub open-next : {h f : Refusal} → h ≡ headerFooterFault v b → h .number ≡ 0 → f ≡ tracksFault v b → f ≡ openFault v b
+  -- a walk over all slots
+  whole-walk : {n : ℕ} → n ≡ slots v → tracksFaultIn v b 0 n ≡ tracksFault v b
+  whole-walk {n} e =
+      let end : walkEnd v (slots v) ≡ slots v = simp (le-leb (slots v) (slots v) (omega arith)) in
+      ap (tracksFaultIn v b 0) e ∙ ap (firstFrom (trackFault v b) 0) (omega arith)
+
+  pub open-next : {h f : Refusal} {n : ℕ} → h ≡ headerFooterFault v b → h .number ≡ 0 → n ≡ slots v → f ≡ tracksFaultIn v b 0 n → f ≡ openFault v b
   unfolding openFault
-  open-next e n q = first-next (headerFooterFault v b) (tracksFault v b) e n q
+  open-next e z s q = first-next (headerFooterFault v b) (tracksFault v b) e z (q ∙ whole-walk s)
 
 -- f is what opening finds
 module _ (v : Edition) (b : List ℕ) {f : Refusal} (e : f ≡ openFault v b) where

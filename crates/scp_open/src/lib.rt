@@ -1,8 +1,9 @@
 // Opening a SuperCard Pro image by an edition: refusals 1 to 11, its header and its table of tracks.
 // Opening looks at the header, the table, the footer with its strings, and the track data headers; it reads no flux.
 ghost use mathlib.Core.Path.{_≡_};
+ghost use Prim.Native.Nat.{_≤_};
 ghost use Rattle.scp_fields.specs.Header.{entries};
-ghost use Rattle.scp_tracks.specs.Tracks.{tracksFault};
+ghost use Rattle.scp_tracks.specs.Tracks.{walkEnd, tracksFaultIn};
 ghost use Rattle.scp_open.specs.Opening.{headerOf, refusedImage, openedOf};
 use refusals::Refusal;
 use scp_fields::Edition;
@@ -42,15 +43,27 @@ fn read_table(image: &[u8], edition: Edition) -> [u32; 168]
     table
 }
 
-// The first faulty track, from the table's entries.
-fn tracks_fault(image: &[u8], edition: Edition, table: &[u32; 168]) -> Refusal
-    requires { ⌜ now table ≡ entries edition (now image) ⌝ }
-    ensures { λ r. ⌜ r ≡ tracksFault edition (now (image .entry)) ⌝ }
+// Where a walk up to a track ends: there, or with the edition's table.
+fn walk_end(edition: Edition, to: usize) -> usize
+    ensures { λ r. ⌜ (r ≡ walkEnd edition to) × (r ≤ 168) ⌝ }
 {
-    let n = scp_fields::slots(edition);
-    let mut t: usize = 0;
-    while t < n {
-        let f = scp_tracks::track_fault(image, edition, table[t], t as u32);
+    let slots = scp_fields::slots(edition);
+    if to <= slots {
+        return to;
+    }
+    slots
+}
+
+// What refuses the first faulty one of the tracks from `from` up to `to`, which is left out, as far as the edition's table goes: 9 to 11, or
+// number 0. Opening walks over all tracks, a direct call over one.
+pub fn tracks_fault(image: &[u8], edition: Edition, from: usize, to: usize) -> Refusal
+    ensures { λ r. ⌜ r ≡ tracksFaultIn edition (now (image .entry)) from to ⌝ }
+{
+    let end = walk_end(edition, to);
+    let mut t = from;
+    while t < end {
+        let entry = scp_fields::track_entry(image, t as u32);
+        let f = scp_tracks::track_fault(image, edition, entry, t as u32);
         if f.number != 0 {
             return f;
         }
@@ -106,7 +119,7 @@ pub fn open(image: &[u8], edition: Edition) -> Opened
         return refused_image(first);
     }
     let table = read_table(image, edition);
-    let refusal = tracks_fault(image, edition, &table);
+    let refusal = tracks_fault(image, edition, 0, scp_fields::slots(edition));
     if refusal.number != 0 {
         return refused_image(refusal);
     }

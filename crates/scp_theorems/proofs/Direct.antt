@@ -13,14 +13,14 @@ use Rattle.refusals.specs.declared.Refusal.{Refusal}
 use Rattle.refusals.specs.Refusals.{none, refusal, passes, refuseIf, firstOf}
 use Rattle.refusals.specs.Refusals as refusals
 use Rattle.refusals.proofs.Chain.{first-next}
-use Rattle.refusals.proofs.Finding.{both-clear, from-clear, Clear, clear-refuse, holds-if}
+use Rattle.refusals.proofs.Finding.{both-clear, from-clear, holds-if}
 use Rattle.copies.proofs.Parts.{part-length}
 use Rattle.scp_fields.specs.declared.Edition.{Edition}
 use Rattle.scp_fields.specs.Editions.{slots}
 use Rattle.scp_fields.specs.Header.{revolutions, trackEntry}
 use Rattle.scp_footer.specs.Footer.{footerFault}
 use Rattle.scp_header.specs.HeaderFault.{headerFault, headerFooterFault}
-use Rattle.scp_tracks.specs.Tracks.{countAt, badSlot, badTrack, badFlux, trackFaultAt, trackFault, tracksFault}
+use Rattle.scp_tracks.specs.Tracks.{countAt, trackFault, tracksFault}
 use Rattle.scp_tracks.specs.Revolutions.{dataOf, revolutionFault}
 use Rattle.scp_open.specs.Opening.{openFault}
 use Rattle.scp_open.proofs.Opens.{clear-open}
@@ -33,24 +33,9 @@ use Rattle.scp_lookup.proofs.FoundLaws.{then-first}
 use Rattle.scp.specs.Answers.{Answer, refused, numbers, bytes, unless, trackValues, trackAnswer, revolutionValues, revolutionAnswer, fluxStart, fluxPart}
 use Rattle.scp.proofs.Answering.{unless-refused}
 use Rattle.scp_theorems.proofs.Tracks.{open-most, counted}
-use Rattle.scp_direct.proofs.DirectLaws.{direct-is-found, direct-within}
+use Rattle.scp_direct.proofs.DirectLaws.{clear-track, direct-is-found, direct-within}
 use Rattle.scp_direct.specs.Direct.{directTrackQuestion, directRevolutionQuestion, directFound, directTrack, directRevolution, directPart}
 use Rattle.scp_theorems.specs.Direct.{SameAnswers, Agrees, RefusedToo, Sound, RefusesSoundly, DirectFluxIsCounted}
-
--- a finding of a track with number 0 is none
-clear-track : (v : Edition) (b : List ℕ) (e t : ℕ) → Clear (trackFaultAt v b e t)
-unfolding trackFaultAt refuseIf
-clear-track v b e t = by (eqb e 0)
-  where
-    by : (x : Bool)
-        → Clear
-        (refuseIf x none
-        (refuseIf (badSlot b t) (refusal 9 t) (refuseIf (badTrack v b e t) (refusal 10 t) (refuseIf (badFlux v b e) (refusal 11 t) none))))
-    by true = λ z. refl
-    by false =
-        clear-refuse (badSlot b t) 8 t _
-        (clear-refuse (badTrack v b e t) 9 t _
-        (clear-refuse (badFlux v b e) 10 t none (λ z. refl)))
 
 -- an image that does not open is refused by one of 1 to 11
 open-one : (v : Edition) (b : List ℕ) → (openFault v b .number ≡ 0 → ⊥) → (1 ≤ openFault v b .number) × (openFault v b .number ≤ 11)

@@ -14,7 +14,6 @@ use Rattle.octets.specs.Numbers.{byteAt, le32At}
 use Rattle.octets.proofs.Numbers.{le-same}
 use Rattle.refusals.specs.declared.Refusal.{Refusal}
 use Rattle.refusals.specs.Refusals.{refusal, passes, refuseIf, firstOf}
-use Rattle.refusals.specs.Refusals as refusals
 use Rattle.refusals.specs.Search.{anyFrom}
 use Rattle.refusals.proofs.Answers.{unless-refused}
 use Rattle.refusals.proofs.Chain.{refuse-here, refuse-next}
@@ -32,7 +31,7 @@ use Rattle.scp_lookup.specs.Lookups.{partOf, startOf}
 use Rattle.scp_lookup.specs.declared.RevolutionAnswer.{RevolutionAnswer}
 use Rattle.scp_lookup.specs.declared.RevolutionAnswer.the-variants.{Found, Refused}
 use Rattle.scp.specs.Answers.{Answer, refused, unless, trackValues, revolutionValues}
-use Rattle.scp_direct.specs.Direct.{directTrackQuestion, directRevolutionQuestion, directFound, directTrack, directRevolution, directPart, directStart, directFlux}
+use Rattle.scp_direct.specs.Direct.{directTrackQuestion, directRevolutionQuestion, directFound, directTrack, directRevolution, directPart, directStart}
 use Rattle.scp_direct.proofs.DirectLaws.{direct-there, direct-below, direct-is-found, direct-within}
 use Rattle.scp_theorems.specs.Direct.{SameBytes, SameTrack, SameLook, LooksOnly}
 

@@ -1,5 +1,5 @@
 -- Tracks, revolutions and their flux (L-13 to L-16, L-18), and refusals 9 to 11.
-use Prim.Native.Nat.{ℕ, _+_, _*_, _/_, _%_}
+use Prim.Native.Nat.{ℕ, _+_, _-_, _*_, _/_, _%_}
 use mathlib.Core.List.{List}
 use mathlib.Core.Bool.{Bool, not, _&&_, _||_, cond}
 use lib.Dec.{eqb, ltb, leb}
@@ -91,6 +91,14 @@ trackFaultAt v b e t =
 -- RO-4: track t, by its entry of the table.
 abbrev pub trackFault : Edition → List ℕ → ℕ → Refusal
 trackFault v b t = trackFaultAt v b (trackEntry b t) t
+
+-- RO-4: where a walk up to track j ends: there, or with the edition's table.
+abbrev pub walkEnd : Edition → ℕ → ℕ
+walkEnd v j = cond (leb j (slots v)) j (slots v)
+
+-- RO-4: the tracks from i up to j, which is left out, as far as the edition's table goes: the first faulty one refuses.
+abbrev pub tracksFaultIn : Edition → List ℕ → ℕ → ℕ → Refusal
+tracksFaultIn v b i j = firstFrom (trackFault v b) i (walkEnd v j - i)
 
 -- RO-4: the tracks of the edition's table from 0 up: the first faulty one refuses.
 abbrev pub tracksFault : Edition → List ℕ → Refusal

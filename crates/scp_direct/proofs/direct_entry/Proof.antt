@@ -1,12 +1,11 @@
 -- Each return meets the tests before it, in the definition's order.
-use Prim.Native.Nat.{ℕ, _<_}
+use Prim.Native.Nat.{_<_}
 use mathlib.Core.Path.{_≡_, sym, ap, _∙_}
 use borrow.Author.Needs.{needs}
 use Rattle.refusals.specs.declared.Refusal.{Refusal}
 use Rattle.refusals.proofs.Finding.{is-refusal}
 use Rattle.scp_fields.specs.Editions.{slots}
 use Rattle.scp_header.specs.HeaderFault.{headerFault}
-use Rattle.scp_tracks.specs.Tracks.{trackFaultAt}
 use Rattle.scp_direct.specs.Direct.{directTrackQuestion}
 use Rattle.scp_direct.proofs.DirectLaws.{entry-refused, entry-found, by-header, by-slot, by-entry, by-track}
 use Rattle.scp_direct.proofs.direct_entry.Statement.{statement}
@@ -50,20 +49,21 @@ returns-3 c =
     let zero = sym (at-entry .track-entry .ensures) ∙ c .before .if3 .taken in
     entry-refused _ _ _ (by-entry _ _ _ (headed (slot .before .before)) (in-table slot) zero (c .refuse2 .ensures)) (is-refusal 12 (c .refuse2 .ensures))
 
-track-fault-requires : tie.Need-track-fault-requires
-track-fault-requires c κs = search needs
+add-tracks-fault : tie.Need-add-tracks-fault
+add-tracks-fault c = search needs
+
+tracks-fault-requires : tie.Need-tracks-fault-requires
+tracks-fault-requires c κs = search needs
 
 -- past the third, what is found of the track is what the question says
-asked : (c : tie.After-track-fault)
+asked : (c : tie.After-tracks-fault)
     → let a = c .before .before .before .before .before .before .before .before .before .args in
-    c .track-fault .result ≡ directTrackQuestion (a .edition) (a .image .now) (a .track)
+    c .tracks-fault .result ≡ directTrackQuestion (a .edition) (a .image .now) (a .track)
 asked c =
     let at-entry = c .before .before in
     let slot = at-entry .before in
-    let a = slot .before .before .before .before .before .before .args in
     let entry = at-entry .track-entry .ensures in
-    by-track _ _ _ (headed (slot .before .before)) (in-table slot) (λ z. c .before .if3 .left (entry ∙ z))
-    (c .track-fault .ensures ∙ ap (λ (e : ℕ). trackFaultAt (a .edition) (a .image .now) e (a .track)) entry)
+    by-track _ _ _ (headed (slot .before .before)) (in-table slot) (λ z. c .before .if3 .left (entry ∙ z)) (c .tracks-fault .ensures)
 
 returns-4 : tie.Need-returns-4
 returns-4 c = entry-refused _ _ _ (asked (c .before .before)) (c .if4 .taken)
@@ -86,6 +86,7 @@ direct-entry-spec =
     track-entry-requires
     refuse-requires-2
     returns-3
-    track-fault-requires
+    add-tracks-fault
+    tracks-fault-requires
     returns-4
     returns-5)

@@ -20,8 +20,11 @@ returns c =
 read-table-requires : tie.Need-read-table-requires
 read-table-requires c κs = search needs
 
+slots-requires : tie.Need-slots-requires
+slots-requires c κs = search needs
+
 tracks-fault-requires : tie.Need-tracks-fault-requires
-tracks-fault-requires c κs = c .before .read-table .ensures
+tracks-fault-requires c κs = search needs
 
 refused-image-requires-2 : tie.Need-refused-image-requires-2
 refused-image-requires-2 c κs = search needs
@@ -29,9 +32,10 @@ refused-image-requires-2 c κs = search needs
 returns-2 : tie.Need-returns-2
 returns-2 c =
     let at-tracks = c .before .before .before in
-    let at-if1 = at-tracks .before .before .before in
+    let at-slots = at-tracks .before in
+    let at-if1 = at-slots .before .before in
     let at-head = at-if1 .before .before in
-    let f = open-next _ _ (at-head .check-header .ensures) (at-if1 .if1 .left) (at-tracks .tracks-fault .ensures) in
+    let f = open-next _ _ (at-head .check-header .ensures) (at-if1 .if1 .left) (at-slots .slots .ensures .0) (at-tracks .tracks-fault .ensures) in
     c .refused-image2 .ensures ∙ opened-refused _ _ f (c .before .if2 .taken)
 
 read-header-requires : tie.Need-read-header-requires
@@ -40,10 +44,11 @@ read-header-requires c κs = search needs
 returns-3 : tie.Need-returns-3
 returns-3 c =
     let at-tracks = c .before .before .before in
-    let at-table = at-tracks .before .before in
+    let at-slots = at-tracks .before in
+    let at-table = at-slots .before in
     let at-if1 = at-table .before in
     let at-head = at-if1 .before .before in
-    let f = open-next _ _ (at-head .check-header .ensures) (at-if1 .if1 .left) (at-tracks .tracks-fault .ensures) in
+    let f = open-next _ _ (at-head .check-header .ensures) (at-if1 .if1 .left) (at-slots .slots .ensures .0) (at-tracks .tracks-fault .ensures) in
     let o = opened-passes _ _ f (c .before .if2 .left) in
     cc
 
@@ -55,6 +60,7 @@ open-spec =
     refused-image-requires
     returns
     read-table-requires
+    slots-requires
     tracks-fault-requires
     refused-image-requires-2
     returns-2
