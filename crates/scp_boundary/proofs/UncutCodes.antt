@@ -13,7 +13,7 @@ use Rattle.scp_fields.specs.Header.{hasFooter, trackEntry}
 use Rattle.scp_fields.proofs.EditionLaws.{slots-most}
 use Rattle.scp_fields.specs.Footer.{stringSlots}
 use Rattle.scp_footer.specs.Footer.{stringFaultAt, stringFault, footerFault}
-use Rattle.scp_header.specs.HeaderFault.{headerFault, headerFooterFault}
+use Rattle.scp_header.specs.HeaderFault.{headerFault}
 use Rattle.scp_tracks.specs.Tracks.{durationAt, trackFaultAt, trackFault, tracksFault}
 use Rattle.scp_open.specs.Opening.{openFault}
 use Rattle.scp_speed.specs.Speeds.{longest, speedsOf}
@@ -54,10 +54,6 @@ module _ (v : Edition) (b : List ℕ) where
       (small-if _ _ 6 (omega arith)
       small-none)))))
 
-  head-small : Small (headerFooterFault v b)
-  unfolding headerFooterFault
-  head-small = small-first (headerFault v b) (footerFault v b) header-small footer-small
-
   pub track-small : (t : ℕ) → t < 256 → Small (trackFault v b t)
   unfolding trackFaultAt
   track-small t h =
@@ -70,8 +66,9 @@ module _ (v : Edition) (b : List ℕ) where
   open-small : Small (openFault v b)
   unfolding openFault
   open-small =
-      small-first (headerFooterFault v b) (tracksFault v b) head-small
-      (small-from (trackFault v b) 0 (slots v) (λ t a z. track-small t (omega (arith, slots-most v))))
+      small-first (headerFault v b) _ header-small
+      (small-first (footerFault v b) (tracksFault v b) footer-small
+      (small-from (trackFault v b) 0 (slots v) (λ t a z. track-small t (omega (arith, slots-most v)))))
 
   -- ---- what refuses a call
 

@@ -3,16 +3,17 @@ use Prim.Native.Nat.{ℕ, _+_, _-_, _*_, _<_, _≤_}
 use mathlib.Core.Path.{_≡_, refl, sym, ap, _∙_}
 use mathlib.Core.List.{List}
 use mathlib.Core.Bool.{Bool, true, false, not}
+use native.Mathlib.Decide.{ℕ-discrete}
 use native.Mathlib.Omega.{arith}
 use lib.ListN.{length}
 use lib.Dec.{eqb, leb}
-use borrow.Author.Tests.{eq-eqb, ne-eqb, eqb-true, eqb-false, le-leb, lt-leb, leb-false}
+use borrow.Author.Tests.{eq-eqb, ne-eqb, eqb-true, eqb-false, le-leb, lt-leb, leb-true, leb-false}
 use Rattle.refusals.specs.declared.Refusal.{Refusal}
 use Rattle.refusals.specs.Refusals.{none, refusal, passes, refuseIf, firstOf}
 use Rattle.refusals.specs.Search.{firstFrom}
 use Rattle.refusals.proofs.Answers.{unless-refused, unless-found}
 use Rattle.refusals.proofs.Chain.{refuse-here, refuse-next, first-here, first-next}
-use Rattle.refusals.proofs.Finding.{both-clear, not-refused, Clear, clear-refuse}
+use Rattle.refusals.proofs.Finding.{both-clear, not-refused, excuse, Clear, clear-refuse}
 use Rattle.scp_fields.specs.declared.Edition.{Edition}
 use Rattle.scp_fields.specs.Editions.{slots}
 use Rattle.scp_fields.specs.Header.{revolutions, trackEntry}
@@ -20,6 +21,7 @@ use Rattle.scp_header.specs.HeaderFault.{headerFault}
 use Rattle.scp_tracks.specs.Tracks.{badSlot, badTrack, badFlux, trackFaultAt, trackFault, walkEnd, tracksFaultIn}
 use Rattle.scp_tracks.specs.Revolutions.{dataOf, revolutionFault}
 use Rattle.scp_tracks.specs.declared.RevolutionData.{RevolutionData}
+use Rattle.scp_open.specs.Opening.{faultIn}
 use Rattle.scp_open.proofs.Opens.{track-holds}
 use Rattle.scp_lookup.specs.declared.Entry.the-variants as entry
 use Rattle.scp_lookup.specs.declared.RevolutionAnswer.the-variants as revolution-answer
@@ -63,6 +65,19 @@ one-walk v b t h =
     let one : walkEnd v (t + 1) - t ≡ 1 = omega arith in
     ap (firstFrom (trackFault v b) t) one ∙ first-alone (trackFault v b t) (clear-track v b (trackEntry b t) t)
 
+-- over a track that it has not
+no-walk : (v : Edition) (b : List ℕ) (t : ℕ) → slots v ≤ t → tracksFaultIn v b t (t + 1) .number ≡ 0
+unfolding firstFrom
+no-walk v b t h =
+    let end : walkEnd v (t + 1) ≡ slots v = simp (lt-leb (t + 1) (slots v) (omega arith)) in
+    let zero : walkEnd v (t + 1) - t ≡ 0 = omega arith in
+    ap (λ (n : ℕ). firstFrom (trackFault v b) t n .number) zero
+
+-- a track with entry 0
+absent-clear : (v : Edition) (b : List ℕ) (t : ℕ) → trackEntry b t ≡ 0 → trackFault v b t .number ≡ 0
+unfolding trackFaultAt
+absent-clear v b t a = excuse (eqb (trackEntry b t) 0) _ (λ q. absurd (eqb-false (trackEntry b t) 0 q a))
+
 module _ (v : Edition) (b : List ℕ) (t : ℕ) where
   pub entry-refused : {f : Refusal} → f ≡ directTrackQuestion v b t → (f .number ≡ 0 → ⊥) → entry.Refused f ≡ directEntry v b t
   unfolding directEntry
@@ -89,6 +104,32 @@ module _ (v : Edition) (b : List ℕ) (t : ℕ) where
     by-track h a e =
         first-next (headerFault v b) _ refl z
         (refuse-next (leb (slots v) t) _ _ (lt-leb (slots v) t h) (refuse-next (eqb (trackEntry b t) 0) _ _ (ne-eqb (trackEntry b t) 0 a) (e ∙ one-walk v b t h)))
+
+  -- what refuses the header and this track refuses the call: 13 is for tracks of which nothing is tested
+  pub asked-first : {f : Refusal} → f ≡ faultIn v b false t (t + 1) → (f .number ≡ 0 → ⊥) → f ≡ directTrackQuestion v b t
+  asked-first {f} e n = elim (ℕ-discrete (headerFault v b .number) 0) [ yes z ↦ behind z | no h ↦ by-header (e ∙ sym (first-here (headerFault v b) _ refl h)) n ]
+    where
+      walked : headerFault v b .number ≡ 0 → f ≡ tracksFaultIn v b t (t + 1)
+      walked z = e ∙ sym (first-next (headerFault v b) _ refl z (first-next none (tracksFaultIn v b t (t + 1)) refl refl refl))
+
+      refuses : headerFault v b .number ≡ 0 → tracksFaultIn v b t (t + 1) .number ≡ 0 → ⊥
+      refuses z q = n (ap (λ (x : Refusal). x .number) (walked z) ∙ q)
+
+      behind : headerFault v b .number ≡ 0 → f ≡ directTrackQuestion v b t
+      behind z = by (leb (slots v) t) refl
+        where
+          by : (x : Bool) → leb (slots v) t ≡ x → f ≡ directTrackQuestion v b t
+          by true h = absurd (refuses z (no-walk v b t (leb-true (slots v) t h)))
+          by false h =
+              let slot = leb-false (slots v) t h in
+              by-track z slot (λ a. refuses z (ap (λ (x : Refusal). x .number) (one-walk v b t slot) ∙ absent-clear v b t a)) (walked z)
+
+  -- where nothing does, neither does the header, nor the track
+  pub first-clear : {f : Refusal} → f ≡ faultIn v b false t (t + 1) → f .number ≡ 0
+      → (headerFault v b .number ≡ 0) × (tracksFaultIn v b t (t + 1) .number ≡ 0)
+  first-clear e z =
+      let both = both-clear (headerFault v b) _ (ap (λ (x : Refusal). x .number) (sym e) ∙ z) in
+      (both .0, both-clear none (tracksFaultIn v b t (t + 1)) (both .1) .1)
 
   -- the header is not refused, and the track is there and not refused
   pub record DirectThere : Type 0 where

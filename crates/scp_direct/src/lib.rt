@@ -9,25 +9,21 @@ use scp_lookup::Entry;
 use scp_lookup::RevolutionAnswer;
 use scp_lookup::TrackAnswer;
 
-// The table's entry of a track: 1 to 6, then 13, then 9, 10 and 11 of this track.
+// The table's entry of a track: 1 to 6, then 13, then 9, 10 and 11 of this track. 13 is tested last, since 9 to 11 refuse no track that is absent.
 fn direct_entry(image: &[u8], edition: Edition, track: u32) -> Entry
     ensures { λ r. ⌜ r ≡ directEntry edition (now (image .entry)) track ⌝ }
 {
-    let first = scp_header::header_fault(image, edition);
-    if first.number != 0 {
-        return Entry::Refused(first);
-    }
     let t = track as usize;
+    let fault = scp_open::first_fault(image, edition, false, t, t + 1);
+    if fault.number != 0 {
+        return Entry::Refused(fault);
+    }
     if scp_fields::slots(edition) <= t {
         return Entry::Refused(refusals::refuse(refusals::ABSENT, 0));
     }
     let entry = scp_fields::track_entry(image, track);
     if entry == 0 {
         return Entry::Refused(refusals::refuse(refusals::ABSENT, 0));
-    }
-    let fault = scp_open::tracks_fault(image, edition, t, t + 1);
-    if fault.number != 0 {
-        return Entry::Refused(fault);
     }
     Entry::At(entry)
 }

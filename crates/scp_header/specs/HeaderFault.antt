@@ -1,11 +1,10 @@
--- Refusals 1 to 8 in their order (RO-3).
+-- Refusals 1 to 6 in their order (RO-3).
 use Prim.Native.Nat.{ℕ}
 use mathlib.Core.List.{List}
 use Rattle.refusals.specs.declared.Refusal.{Refusal}
-use Rattle.refusals.specs.Refusals.{none, refusal, refuseIf, firstOf}
+use Rattle.refusals.specs.Refusals.{none, refusal, refuseIf}
 use Rattle.scp_header.specs.HeaderTests.{badSize, badSign, badWidth, badRevolutions, badSpan, badHeads}
 use Rattle.scp_fields.specs.declared.Edition.{Edition}
-use Rattle.scp_footer.specs.Footer.{footerFault}
 
 -- RO-3: of 1 to 6 the lowest number comes first.
 unfoldable pub headerFault : Edition → List ℕ → Refusal
@@ -17,7 +16,3 @@ headerFault v b =
     (refuseIf (badSpan v b) (refusal 5 0)
     (refuseIf (badHeads b) (refusal 6 0)
     none)))))
-
--- RO-3: 1 to 6, then 7 and 8.
-unfoldable pub headerFooterFault : Edition → List ℕ → Refusal
-headerFooterFault v b = firstOf (headerFault v b) (footerFault v b)

@@ -1,9 +1,9 @@
-// The header of a SuperCard Pro image, by any edition: refusals 1 to 6, then those of the footer, 7 and 8.
+// The header of a SuperCard Pro image, by any edition: refusals 1 to 6.
 ghost use mathlib.Core.Path.{_≡_};
 ghost use Prim.Native.Nat.{_≤_};
 ghost use lib.ListN.{length};
 ghost use Rattle.scp_header.specs.HeaderTests.{badSign, badWidth, badRevolutions, badSpan, badHeads};
-ghost use Rattle.scp_header.specs.HeaderFault.{headerFault, headerFooterFault};
+ghost use Rattle.scp_header.specs.HeaderFault.{headerFault};
 use refusals::Refusal;
 use scp_fields::Edition;
 
@@ -72,15 +72,4 @@ pub fn header_fault(image: &[u8], edition: Edition) -> Refusal
         return refusals::refuse(refusals::HEADS, 0);
     }
     refusals::pass()
-}
-
-// What refuses the header or the footer: the first of refusals 1 to 8, or number 0.
-pub fn check_header(image: &[u8], edition: Edition) -> Refusal
-    ensures { λ r. ⌜ r ≡ headerFooterFault edition (now (image .entry)) ⌝ }
-{
-    let first = header_fault(image, edition);
-    if first.number != 0 {
-        return first;
-    }
-    scp_footer::footer_fault(image, edition)
 }

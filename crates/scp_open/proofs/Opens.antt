@@ -20,7 +20,7 @@ use Rattle.scp_header.specs.HeaderTests.{badSize, badSign, badWidth, badRevolut
 use Rattle.scp_fields.specs.Footer.{footerAt, footerLeast, stringSlots, stringEntry}
 use Rattle.scp_footer.specs.Footer.{badFooter, zeroAt, zeroWithin, badStringOf, badString, stringFaultAt, stringFault, stringsFault, footerFault}
 use Rattle.scp_tracks.specs.Tracks.{headOf, headerSize, badSlot, badMark, badTrack, fluxPast, badFlux, trackFaultAt, trackFault, tracksFault}
-use Rattle.scp_header.specs.HeaderFault.{headerFault, headerFooterFault}
+use Rattle.scp_header.specs.HeaderFault.{headerFault}
 use Rattle.scp_open.specs.Opening.{openFault}
 use Rattle.scp_open.specs.Validity.{StringHolds, FooterHolds, TrackHolds, Opens, OpensExactly}
 use Rattle.refusals.proofs.Finding.{either, neither, from-none, none-from, not-refused, pass, not-excused, excuse, both-clear, clear-both, clear-below, Clear, clear-first, clear-from-all}
@@ -170,11 +170,11 @@ tracks-hold v b = clear-below (trackFault v b) _ (slots v) (λ t. track-holds v 
 
 module _ (v : Edition) (b : List ℕ) where
   pub opens : openFault v b .number ≡ 0 → Opens v b
-  unfolding openFault headerFooterFault headerFault badSize
+  unfolding openFault headerFault badSize
   opens e =
-      let found = both-clear (headerFooterFault v b) (tracksFault v b) e in
-      let head = both-clear (headerFault v b) (footerFault v b) (found .0) in
-      let size = not-refused (badSize v b) 0 0 _ (head .0) in
+      let found = both-clear (headerFault v b) _ e in
+      let rest = both-clear (footerFault v b) (tracksFault v b) (found .1) in
+      let size = not-refused (badSize v b) 0 0 _ (found .0) in
       let sign = not-refused (badSign b) 1 0 _ (size .1) in
       let words = not-refused (badWidth b) 2 0 _ (sign .1) in
       let turns = not-refused (badRevolutions b) 3 0 _ (words .1) in
@@ -194,31 +194,30 @@ module _ (v : Edition) (b : List ℕ) where
         span = ltb-false _ (startTrack b) (ends .0);
         spanEnd = let h = ltb-false (lastTrack v) (endTrack b) (ends .1) in omega (arith, slots-least v);
         sides = ltb-false 2 _ (sides .0);
-        footer = footer-holds v b .0 (head .1);
-        tracks = tracks-hold v b .0 (found .1);
+        footer = footer-holds v b .0 (rest .0);
+        tracks = tracks-hold v b .0 (rest .1);
       }
 
   pub clears : Opens v b → openFault v b .number ≡ 0
-  unfolding openFault headerFooterFault headerFault badSize
+  unfolding openFault headerFault badSize
   clears h =
       let some : revolutions b ≢ 0 = λ z. omega arith in
       let turns : readWrite b && ltb 1 (revolutions b) ≡ false = never-both (readWrite b) _ (λ w. simp (h .readWriteOne w)) in
       let last : endTrack b ≤ lastTrack v = omega arith in
-      clear-both (headerFooterFault v b) (tracksFault v b)
-      (clear-both (headerFault v b) (footerFault v b)
+      clear-both (headerFault v b) _
       (pass (badSize v b) _ _ (simp (le-ltb _ _ (h .least), le-ltb _ _ (h .most)))
       (pass (badSign b) _ _ (simp (h .sign .0, h .sign .1, h .sign .2))
       (pass (badWidth b) _ _ (elim (h .wordWidth) [ inl w ↦ simp w | inr w ↦ simp w ])
       (pass (badRevolutions b) _ _ (simp (ne-eqb _ _ some, turns))
       (pass (badSpan v b) _ _ (simp (le-ltb _ _ (h .span), le-ltb _ _ last))
       (pass (badHeads b) _ none (le-ltb _ _ (h .sides)) refl))))))
-      (footer-holds v b .1 (h .footer)))
-      (tracks-hold v b .1 (h .tracks))
+      (clear-both (footerFault v b) (tracksFault v b) (footer-holds v b .1 (h .footer)) (tracks-hold v b .1 (h .tracks)))
 
 -- a finding of opening with number 0 is none
 pub clear-open : (v : Edition) (b : List ℕ) → Clear (openFault v b)
 unfolding openFault
-clear-open v b = clear-first (headerFooterFault v b) (tracksFault v b) (clear-from-all (trackFault v b) 0 (slots v))
+clear-open v b =
+    clear-first (headerFault v b) _ (clear-first (footerFault v b) (tracksFault v b) (clear-from-all (trackFault v b) 0 (slots v)))
 
 pub opens-exactly : OpensExactly
 opens-exactly v b = (λ e. opens v b (ap (λ (f : Refusal). f .number) e), λ h. clear-open v b (clears v b h))

@@ -1,20 +1,29 @@
 -- Opening: refusals 1 to 11 in their order (RO-3, RO-4), and the opened image (T-1).
 use Prim.Native.Nat.{ℕ}
 use mathlib.Core.List.{List}
-use mathlib.Core.Bool.{cond}
+use mathlib.Core.Bool.{Bool, cond}
 use lib.ListN.{replicate}
 use Rattle.refusals.specs.declared.Refusal.{Refusal}
-use Rattle.refusals.specs.Refusals.{passes, firstOf}
+use Rattle.refusals.specs.Refusals.{none, passes, firstOf}
 use Rattle.scp_fields.specs.declared.Edition.{Edition}
 use Rattle.scp_fields.specs.Header.{trackSlots, version, disk, revolutions, startTrack, endTrack, flags, width, heads, storedSum, entries}
-use Rattle.scp_header.specs.HeaderFault.{headerFooterFault}
-use Rattle.scp_tracks.specs.Tracks.{tracksFault}
+use Rattle.scp_header.specs.HeaderFault.{headerFault}
+use Rattle.scp_footer.specs.Footer.{footerFault}
+use Rattle.scp_tracks.specs.Tracks.{tracksFaultIn, tracksFault}
 use Rattle.scp_open.specs.declared.Header.{Header}
 use Rattle.scp_open.specs.declared.Opened.{Opened}
 
--- RO-4, T-1: what refuses the image: 1 to 8, then the tracks with 9 to 11.
+-- RO-3, RO-4, T-1: what refuses the image: 1 to 6, then 7 and 8, then the tracks with 9 to 11.
 unfoldable pub openFault : Edition → List ℕ → Refusal
-openFault v b = firstOf (headerFooterFault v b) (tracksFault v b)
+openFault v b = firstOf (headerFault v b) (firstOf (footerFault v b) (tracksFault v b))
+
+-- RO-3, DI-1: what refuses the footer, where it is tested.
+abbrev pub footerFaultIf : Edition → List ℕ → Bool → Refusal
+footerFaultIf v b footer = cond footer (footerFault v b) none
+
+-- RO-3, RO-4, DI-1: what refuses the header, the footer where it is tested, and the tracks from i up to j, which is left out.
+abbrev pub faultIn : Edition → List ℕ → Bool → ℕ → ℕ → Refusal
+faultIn v b footer i j = firstOf (headerFault v b) (firstOf (footerFaultIf v b footer) (tracksFaultIn v b i j))
 
 -- T-1: the header as it is handed out.
 unfoldable pub headerOf : List ℕ → Header

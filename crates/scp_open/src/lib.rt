@@ -4,7 +4,7 @@ ghost use mathlib.Core.Path.{_≡_};
 ghost use Prim.Native.Nat.{_≤_};
 ghost use Rattle.scp_fields.specs.Header.{entries};
 ghost use Rattle.scp_tracks.specs.Tracks.{walkEnd, tracksFaultIn};
-ghost use Rattle.scp_open.specs.Opening.{headerOf, refusedImage, openedOf};
+ghost use Rattle.scp_open.specs.Opening.{footerFaultIf, faultIn, headerOf, refusedImage, openedOf};
 use refusals::Refusal;
 use scp_fields::Edition;
 
@@ -54,9 +54,8 @@ fn walk_end(edition: Edition, to: usize) -> usize
     slots
 }
 
-// What refuses the first faulty one of the tracks from `from` up to `to`, which is left out, as far as the edition's table goes: 9 to 11, or
-// number 0. Opening walks over all tracks, a direct call over one.
-pub fn tracks_fault(image: &[u8], edition: Edition, from: usize, to: usize) -> Refusal
+// What refuses the first faulty one of the tracks from `from` up to `to`, which is left out, as far as the edition's table goes.
+fn tracks_fault(image: &[u8], edition: Edition, from: usize, to: usize) -> Refusal
     ensures { λ r. ⌜ r ≡ tracksFaultIn edition (now (image .entry)) from to ⌝ }
 {
     let end = walk_end(edition, to);
@@ -70,6 +69,32 @@ pub fn tracks_fault(image: &[u8], edition: Edition, from: usize, to: usize) -> R
         t += 1;
     }
     refusals::pass()
+}
+
+// What refuses the footer, where it is to be tested.
+fn footer_fault(image: &[u8], edition: Edition, footer: bool) -> Refusal
+    ensures { λ r. ⌜ r ≡ footerFaultIf edition (now (image .entry)) footer ⌝ }
+{
+    if footer {
+        return scp_footer::footer_fault(image, edition);
+    }
+    refusals::pass()
+}
+
+// What refuses the header, the footer where it is to be tested, and the tracks from `from` up to `to`, which is left out: the first of 1 to 11, or
+// number 0. Opening tests all of it, a direct call the header and one track.
+pub fn first_fault(image: &[u8], edition: Edition, footer: bool, from: usize, to: usize) -> Refusal
+    ensures { λ r. ⌜ r ≡ faultIn edition (now (image .entry)) footer from to ⌝ }
+{
+    let first = scp_header::header_fault(image, edition);
+    if first.number != 0 {
+        return first;
+    }
+    let second = footer_fault(image, edition, footer);
+    if second.number != 0 {
+        return second;
+    }
+    tracks_fault(image, edition, from, to)
 }
 
 // The header's fields.
@@ -114,15 +139,11 @@ fn refused_image(refusal: Refusal) -> Opened
 pub fn open(image: &[u8], edition: Edition) -> Opened
     ensures { λ r. ⌜ r ≡ openedOf edition (now (image .entry)) ⌝ }
 {
-    let first = scp_header::check_header(image, edition);
-    if first.number != 0 {
-        return refused_image(first);
-    }
-    let table = read_table(image, edition);
-    let refusal = tracks_fault(image, edition, 0, scp_fields::slots(edition));
+    let refusal = first_fault(image, edition, true, 0, scp_fields::slots(edition));
     if refusal.number != 0 {
         return refused_image(refusal);
     }
+    let table = read_table(image, edition);
     let header = read_header(image);
     Opened {
         refusal,

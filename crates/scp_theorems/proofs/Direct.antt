@@ -19,7 +19,7 @@ use Rattle.scp_fields.specs.declared.Edition.{Edition}
 use Rattle.scp_fields.specs.Editions.{slots}
 use Rattle.scp_fields.specs.Header.{revolutions, trackEntry}
 use Rattle.scp_footer.specs.Footer.{footerFault}
-use Rattle.scp_header.specs.HeaderFault.{headerFault, headerFooterFault}
+use Rattle.scp_header.specs.HeaderFault.{headerFault}
 use Rattle.scp_tracks.specs.Tracks.{countAt, trackFault, tracksFault}
 use Rattle.scp_tracks.specs.Revolutions.{dataOf, revolutionFault}
 use Rattle.scp_open.specs.Opening.{openFault}
@@ -49,10 +49,10 @@ module _ (v : Edition) (b : List ℕ) (opens : openFault v b ≡ none) where
 
   -- neither its header nor a track is refused
   parts : (headerFault v b .number ≡ 0) × (tracksFault v b .number ≡ 0)
-  unfolding openFault headerFooterFault
+  unfolding openFault
   parts =
-      let found = both-clear (headerFooterFault v b) (tracksFault v b) number in
-      (both-clear (headerFault v b) (footerFault v b) (found .0) .0, found .1)
+      let found = both-clear (headerFault v b) _ number in
+      (found .0, both-clear (footerFault v b) (tracksFault v b) (found .1) .1)
 
   track-clear : (t : ℕ) → t < slots v → trackFault v b t ≡ none
   track-clear t h =

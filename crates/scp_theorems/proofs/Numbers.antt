@@ -6,7 +6,7 @@ use Rattle.refusals.proofs.Finding.{holds-if, holds-first, holds-from}
 use Rattle.scp_fields.specs.declared.Edition.{Edition}
 use Rattle.scp_fields.specs.Editions.{slots}
 use Rattle.scp_footer.specs.Footer.{footerFault}
-use Rattle.scp_header.specs.HeaderFault.{headerFault, headerFooterFault}
+use Rattle.scp_header.specs.HeaderFault.{headerFault}
 use Rattle.scp_tracks.specs.Tracks.{trackFaultAt, trackFault, tracksFault}
 use Rattle.scp_open.specs.Opening.{openFault}
 use Rattle.scp_lookup.specs.Questions.{trackThen, revolutionThen}
@@ -39,11 +39,10 @@ module _ (P : ℕ → Type 0) where
         (holds-if Numbered _ _ _ p9 (holds-if Numbered _ _ _ p10 (holds-if Numbered _ _ _ p11 z))))
 
     pub open-number : P 0 → P 1 → P 2 → P 3 → P 4 → P 5 → P 6 → Numbered (footerFault v b) → P 9 → P 10 → P 11 → Numbered (openFault v b)
-    unfolding openFault headerFooterFault
+    unfolding openFault
     open-number z p1 p2 p3 p4 p5 p6 foot p9 p10 p11 =
-        holds-first Numbered (headerFooterFault v b) (tracksFault v b)
-        (holds-first Numbered (headerFault v b) (footerFault v b) (header-number z p1 p2 p3 p4 p5 p6) foot)
-        (tracks-number z p9 p10 p11)
+        holds-first Numbered (headerFault v b) _ (header-number z p1 p2 p3 p4 p5 p6)
+        (holds-first Numbered (footerFault v b) (tracksFault v b) foot (tracks-number z p9 p10 p11))
 
     -- a call on a revolution: 13 and 14 besides, and what comes after
     pub asked-number : Numbered (openFault v b) → P 13 → P 14 → (t k : ℕ) (rest : Refusal) → Numbered rest → Numbered (revolutionThen v b t k rest)
