@@ -56,7 +56,8 @@ pub fn open(image: &[u8], edition: Edition) -> Result<[u32; 168], Refused> {
     Ok(table)
 }
 
-/// Refusals 1 to 6.
+/// Refusals 1 to 6. Inlined, as is the test of a track, so that each walk has its own, as if it were the only one.
+#[inline(always)]
 fn check_header(image: &[u8], edition: Edition) -> Result<(), Refused> {
     if !(table_end(edition)..=268_435_456).contains(&image.len()) {
         return Err((1, 0));
@@ -106,6 +107,7 @@ fn body(image: &[u8], edition: Edition) -> Extent {
     (table_end(edition) as u64, image.len() as u64 - footer)
 }
 
+#[inline(always)]
 fn check_track(image: &[u8], track: usize, entry: u64, revolutions: usize, (start, end): Extent) -> Result<(), u32> {
     let held = match image[10] {
         0 => true,
