@@ -120,13 +120,19 @@ uint64_t scp_direct_revolution(const uint8_t *image, size_t size, uint32_t editi
 uint64_t scp_direct_flux(const uint8_t *image, size_t size, uint32_t edition, uint32_t track, uint32_t revolution, uint8_t *out,
                          size_t places);
 
-/* The next interval of the flux from a word on, to out, 3 numbers: interval in ticks (0: no closing word is left), open ticks, the
- * number of the word to go on from. Refusals 17, 15. */
+/* The next interval of the flux from a word on, to out, 4 numbers: interval in ticks (0: no closing word is left), open ticks, the
+ * number of the word to go on from, the number of the word that closed the interval (0 also where there is no interval, which the first
+ * number tells). Words are counted from 0, the first of the flux. Refusals 17, 15. */
 uint64_t scp_step(const uint8_t *flux, size_t size, uint64_t word, uint64_t *out, size_t places);
 
 /* All intervals of the flux to times; to out, 2 numbers: how many they are, and the open ticks.
  * Refusals 17, 15. */
 uint64_t scp_intervals(const uint8_t *flux, size_t size, uint64_t *times, size_t count, uint64_t *out, size_t places);
+
+/* As scp_intervals, and to closings for each interval the number of the word that closed it, counted from 0 in the flux. size / 2 places
+ * in each list are always enough. Refusals 17, 15; where times, closings or out is too short, none of them is written. */
+uint64_t scp_closed_intervals(const uint8_t *flux, size_t size, uint64_t *times, size_t count, uint64_t *closings,
+                              size_t closing_count, uint64_t *out, size_t places);
 
 /* The words of the times, as bytes, to words; to out, 1 number: how many bytes they are.
  * Refusals 16, 15. */

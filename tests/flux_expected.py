@@ -2,7 +2,8 @@
 """Writes to standard output what the program crates/flux_test must print.
 
 The rules are worked out here from the text alone, by another route than the library's: intervals by
-splitting the list of words at its words that are not zero, words by repeated subtraction. Run it as
+splitting the list of words at its words that are not zero, the words that close them by looking which are
+not zero, words by repeated subtraction. Run it as
     python3 tests/flux_expected.py > crates/flux_test/stdout
 """
 import struct
@@ -12,7 +13,7 @@ LARGEST = (1 << 64) - 1
 
 
 def words_of(flux):
-    return list(struct.unpack('>%dH' % (len(flux) // 2), flux))
+    return list(struct.unpack_from('>%dH' % (len(flux) // 2), flux))
 
 
 def read_all(flux):
@@ -38,23 +39,33 @@ def digest(values):
     return '%d sum %d' % (len(values), sum(values))
 
 
-def lent(places):
+def lent(places, first=7):
     """What a buffer of so many places holds before a call."""
-    return list(range(7, 7 + places))
+    return list(range(first, first + places))
+
+
+def fill(flux, *lists):
+    """Puts lists into buffers, each with its buffer, unless one of these is too short; gives the answer."""
+    if flux_refused(flux):
+        return refused(17)
+    if any(len(values) > len(buffer) for values, buffer in lists):
+        return refused(15)
+    for values, buffer in lists:
+        buffer[:len(values)] = values
+    return 'filled %d open %d' % (len(lists[0][0]), read_all(flux)[1])
 
 
 def read(flux, places):
-    flux, places = bytes(flux), lent(places)
-    if flux_refused(flux):
-        said = refused(17)
-    else:
-        intervals, open_time = read_all(flux)
-        if len(intervals) > len(places):
-            said = refused(15)
-        else:
-            places[:len(intervals)] = intervals
-            said = 'filled %d open %d' % (len(intervals), open_time)
-    print('read', digest(flux), 'leaves', *places, said)
+    flux, times = bytes(flux), lent(places)
+    said = fill(flux, (read_all(flux)[0], times))
+    print('read', digest(flux), 'leaves', *times, said)
+
+
+def closed(flux, places, more_places):
+    flux, times, closings = bytes(flux), lent(places), lent(more_places, 17)
+    closing = [number for number, word in enumerate(words_of(flux)) if word]
+    said = fill(flux, (read_all(flux)[0], times), (closing, closings))
+    print('closed', digest(flux), 'leaves', *times, 'and', *closings, said)
 
 
 def step(flux, word):
@@ -67,7 +78,7 @@ def step(flux, word):
         if closing is None:
             said = 'open %d next %d' % (65536 * len(left), word)
         else:
-            said = 'interval %d open 0 next %d' % (65536 * closing + left[closing], word + closing + 1)
+            said = 'interval %d closing %d open 0 next %d' % (65536 * closing + left[closing], word + closing, word + closing + 1)
     print('step', word, said)
 
 
@@ -101,6 +112,8 @@ def write(times, room, show):
 def short(flux):
     for n in range(7):
         read(flux, n)
+        closed(flux, n, 6)
+        closed(flux, 6, n)
         step(flux, n)
     step(flux, LARGEST)
 
@@ -108,6 +121,8 @@ def short(flux):
 def long(flux):
     for n in range(3):
         read(flux, n)
+    for places in (1, 2), (2, 1), (2, 2):
+        closed(flux, *places)
     for word in 0, 65535, 65536:
         step(flux, word)
 

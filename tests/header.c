@@ -90,14 +90,29 @@ static void ask_directly(struct sample *a) {
 }
 
 static void convert(const uint8_t *flux) {
-    uint64_t out[3], times[3];
+    uint64_t out[4], times[3];
     uint64_t bad[2] = {160, 65536};
     uint8_t words[8];
-    EXPECT(scp_step(flux, 8, 1, out, 3) == 0 && out[0] == 65537 && out[1] == 0 && out[2] == 3);
+    EXPECT(scp_step(flux, 8, 1, out, 4) == 0 && out[0] == 65537 && out[1] == 0 && out[2] == 3 && out[3] == 2);
+    EXPECT(scp_step(flux, 8, 4, out, 4) == 0 && out[0] == 0 && out[1] == 0 && out[2] == 4 && out[3] == 0);
+    EXPECT(scp_step(flux, 8, 1, out, 3) == SCP_PLACES && scp_step(flux, 7, 1, out, 3) == SCP_WORDS);
     EXPECT(scp_intervals(flux, 8, times, 3, out, 2) == 0 && out[0] == 3 && out[1] == 0 && times[1] == 65537);
     EXPECT(scp_words(times, 3, words, 8, out, 1) == 0 && out[0] == 8 && memcmp(words, flux, 8) == 0);
     EXPECT(scp_refusal_number(scp_words(bad, 2, words, 8, out, 1)) == SCP_TIME);
     EXPECT(scp_refusal_position(scp_words(bad, 2, words, 8, out, 1)) == 1);
+}
+
+/* The intervals with the words that close them; where either list, or out, is too short nothing is written. */
+static void close_intervals(const uint8_t *flux) {
+    uint64_t out[2] = {7, 7}, times[4] = {7, 7, 7, 7}, closings[4] = {7, 7, 7, 7};
+    EXPECT(scp_closed_intervals(flux, 8, times, 2, closings, 4, out, 2) == SCP_PLACES);
+    EXPECT(scp_closed_intervals(flux, 8, times, 4, closings, 2, out, 2) == SCP_PLACES);
+    EXPECT(scp_closed_intervals(flux, 8, times, 4, closings, 4, out, 1) == SCP_PLACES);
+    EXPECT(scp_closed_intervals(flux, 7, times, 2, closings, 2, out, 1) == SCP_WORDS);
+    for (int i = 0; i < 4; i++) EXPECT(times[i] == 7 && closings[i] == 7 && out[i % 2] == 7);
+    EXPECT(scp_closed_intervals(flux, 8, times, 3, closings, 4, out, 2) == 0 && out[0] == 3 && out[1] == 0);
+    EXPECT(times[0] == 160 && times[1] == 65537 && times[2] == 240 && times[3] == 7);
+    EXPECT(closings[0] == 0 && closings[1] == 2 && closings[2] == 3 && closings[3] == 7);
 }
 
 static void change(struct sample *a) {
@@ -175,6 +190,7 @@ int main(void) {
         ask(&samples[i]);
         ask_directly(&samples[i]);
         convert(samples[i].image + samples[i].table_end + 16);
+        close_intervals(samples[i].image + samples[i].table_end + 16);
         change(&samples[i]);
     }
     ask_by_the_other(&samples[0]);

@@ -89,6 +89,10 @@ TRACK = [(8_000_000, [160, 0, 1, 240])]
 A, OLD_A = image({0: TRACK}), image({0: TRACK}, edition=V1_4)
 
 
+# revolutions whose last closing word is their first, one after zero words, one before zero words, one of many, and none
+CLOSING = [(8_000_000, words) for words in ([9, 0], [0, 1], [0, 0, 5], [0, 0, 0, 9, 0, 7, 0, 0], [7] * 300 + [0, 8, 0], [], [0])]
+
+
 def of_turns(count, **more):
     """Track 0 with so many revolutions, each of its own duration and of one word."""
     return image({0: [(8_000_000 + k, [k + 1]) for k in range(count)]}, revolutions=count, **more)
@@ -185,6 +189,7 @@ def images():
         'read_write': image({0: [(8_000_000, [5, 0])]}, flags=0x11),
         'no_duration': image({0: [(0, [5])]}),
         'open_only': image({0: [(8_000_000, [0, 0])]}),
+        'closing_words': image({0: CLOSING}, revolutions=len(CLOSING)),
         'empty_flux_at_end': resum(put(put(A, HEAD + 8, bytes(4)), HEAD + 12, struct.pack('<I', end - HEAD))),
         'empty_flux_past_end': resum(put(put(A, HEAD + 8, bytes(4)), HEAD + 12, struct.pack('<I', end - HEAD + 1))),
         'count_5': resum(put(A, HEAD + 8, b'\5\0\0\0')),
@@ -334,6 +339,11 @@ def intervals(words):
     return out, sum(run)
 
 
+def closing_numbers(words):
+    """Which words close an interval, counted from 0."""
+    return [number for number, word in enumerate(words) if word]
+
+
 def listing(b):
     """What crates/scp_list prints, which stays with 1.6."""
     verdict = judged(b, V1_6) if len(b) <= 65536 else 'refused 1 at 0'
@@ -343,8 +353,11 @@ def listing(b):
     lines = ['ok %d tracks %d turns %d sum %d' % (len(b), len(i.tracks), i.turns, i.stored)]
     for t, turns in i.tracks.items():
         for k, (duration, count, place) in enumerate(turns):
-            closed, open_time = intervals(struct.unpack_from('>%dH' % count, i.b, place))
-            lines.append('track %d turn %d ticks %d words %d intervals %d open %d' % (t, k, duration, count, len(closed), open_time))
+            words = struct.unpack_from('>%dH' % count, i.b, place)
+            closed, open_time = intervals(words)
+            last = max(closing_numbers(words), default='-')
+            lines.append('track %d turn %d ticks %d words %d intervals %d open %d last %s'
+                         % (t, k, duration, count, len(closed), open_time, last))
     return lines
 
 
@@ -379,9 +392,14 @@ def questions(b, edition):
                 continue
             duration, count, place = i.tracks[t][k]
             speed = 'none' if not duration else '300 %d' % exact(duration, 300)
-            closed, open_time = intervals(struct.unpack_from('>%dH' % count, i.b, place))
+            words = struct.unpack_from('>%dH' % count, i.b, place)
+            closed, open_time = intervals(words)
+            times, closing = [4, 5, 6], [7, 8]
+            if len(closed) <= 2:
+                times[:len(closed)], closing[:len(closed)] = closed, closing_numbers(words)
             places = 'refused 15 at 0' if len(closed) > 2 else 'filled %d open %d' % (len(closed), open_time)
-            lines.append('turn %d: %d %d %d flux %d speed %s intervals %s' % (k, duration, count, place, 2 * count, speed, places))
+            lines.append('turn %d: %d %d %d flux %d speed %s intervals %s closed %s times %d %d %d by %d %d'
+                         % (k, duration, count, place, 2 * count, speed, places, places, *times, *closing))
     return lines
 
 

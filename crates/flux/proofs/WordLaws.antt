@@ -9,7 +9,7 @@ use lib.Dec.{ltb, eqb}
 use borrow.Author.Tests.{ltb-false, eqb-false}
 use Rattle.octets.specs.Numbers.{be16At}
 use Rattle.flux.specs.Coding.{wordsOf, badFluxSize, fluxLimit}
-use Rattle.flux.specs.Reading.{zeroTicks, intervals, openTime, closingWords}
+use Rattle.flux.specs.Reading.{zeroTicks, intervals, openTime, closingWords, closingNumbers}
 use Rattle.flux.specs.Answers.{gives, stepFrom}
 
 pub length-words : (s : List ℕ) → length (wordsOf s) ≡ length s / 2
@@ -50,7 +50,12 @@ unfolding closingWords
 closing-word ws zero h = absurd (h refl)
 closing-word ws (suc w) h = refl
 
-step-word : (ws : List ℕ) (w from p n : ℕ) → (w ≡ 0 → ⊥) → stepFrom from p n (w ∷ ws) ≡ gives ((p + w) ∷ 0 ∷ (n + 1) ∷ [])
+number-word : (ws : List ℕ) (w n : ℕ) → (w ≡ 0 → ⊥) → closingNumbers n (w ∷ ws) ≡ n ∷ closingNumbers (n + 1) ws
+unfolding closingNumbers
+number-word ws zero n h = absurd (h refl)
+number-word ws (suc w) n h = refl
+
+step-word : (ws : List ℕ) (w from p n : ℕ) → (w ≡ 0 → ⊥) → stepFrom from p n (w ∷ ws) ≡ gives ((p + w) ∷ 0 ∷ (n + 1) ∷ n ∷ [])
 unfolding stepFrom
 step-word ws zero from p n h = absurd (h refl)
 step-word ws (suc w) from p n h = refl
@@ -77,6 +82,10 @@ module _ (s : List ℕ) (i w : ℕ) (h : 2 * i + 1 < length s) (e : w ≡ be16At
     unfolding closingWords
     closing-zero = rw drop-zero refl
 
+    pub number-zero : closingNumbers i (drop i (wordsOf s)) ≡ closingNumbers (i + 1) (drop (i + 1) (wordsOf s))
+    unfolding closingNumbers
+    number-zero = rw drop-zero refl
+
     pub step-zero : (from p : ℕ) → stepFrom from p i (drop i (wordsOf s)) ≡ stepFrom from (p + zeroTicks) (i + 1) (drop (i + 1) (wordsOf s))
     unfolding stepFrom
     step-zero from p = rw drop-zero refl
@@ -91,7 +100,10 @@ module _ (s : List ℕ) (i w : ℕ) (h : 2 * i + 1 < length s) (e : w ≡ be16At
     pub closing-close : closingWords (drop i (wordsOf s)) ≡ suc (closingWords (drop (i + 1) (wordsOf s)))
     closing-close = rw drop-w (closing-word (drop (i + 1) (wordsOf s)) w z)
 
-    pub step-close : (from p : ℕ) → stepFrom from p i (drop i (wordsOf s)) ≡ gives ((p + w) ∷ 0 ∷ (i + 1) ∷ [])
+    pub number-close : closingNumbers i (drop i (wordsOf s)) ≡ i ∷ closingNumbers (i + 1) (drop (i + 1) (wordsOf s))
+    number-close = rw drop-w (number-word (drop (i + 1) (wordsOf s)) w i z)
+
+    pub step-close : (from p : ℕ) → stepFrom from p i (drop i (wordsOf s)) ≡ gives ((p + w) ∷ 0 ∷ (i + 1) ∷ i ∷ [])
     step-close from p = rw drop-w (step-word (drop (i + 1) (wordsOf s)) w from p i z)
 
 -- ---- past the last word
@@ -108,6 +120,10 @@ module _ (s : List ℕ) (i : ℕ) (h : length s / 2 ≤ i) where
   pub closing-end : closingWords (drop i (wordsOf s)) ≡ 0
   unfolding closingWords
   closing-end = rw (drop-end s i h) refl
+
+  pub number-end : closingNumbers i (drop i (wordsOf s)) ≡ []
+  unfolding closingNumbers
+  number-end = rw (drop-end s i h) refl
 
   pub step-end : (from p : ℕ) → stepFrom from p i (drop i (wordsOf s)) ≡ gives (p ∷ from ∷ [])
   unfolding stepFrom

@@ -1,11 +1,11 @@
--- What each public function answers (A-2 to A-5), and what it leaves in the lent buffer (RO-9, RO-10).
-use Prim.Native.Nat.{ℕ, zero, suc, _+_}
+-- What each public function answers (A-2 to A-5), and what it leaves in the lent buffers (RO-9, RO-10).
+use Prim.Native.Nat.{ℕ, zero, suc, _+_, min}
 use mathlib.Core.List.{List, [], _∷_, _++_}
 use mathlib.Core.Bool.{cond}
 use lib.ListN.{length, drop}
 use lib.Dec.{ltb}
 use Rattle.flux.specs.Coding.{wordsOf, bytesOf, badFluxSize}
-use Rattle.flux.specs.Reading.{zeroTicks, intervals, openTime}
+use Rattle.flux.specs.Reading.{zeroTicks, intervals, openTime, closingNumbers}
 use Rattle.flux.specs.Writing.{firstInexpressible, wordsFor}
 use Rattle.flux.specs.declared.Step.{Step}
 use Rattle.flux.specs.declared.Step.the-variants as step
@@ -33,18 +33,18 @@ pub data Answer : Type 0 where
 
 -- ---- a step of the cursor (F-9, F-10)
 
--- A-3: number and values of each case: interval, open time and next word; where there is no interval, open time and next word.
+-- A-3: number and values of each case: interval, open time, next word and closing word; where there is no interval, open time and next word.
 abbrev pub ofStep : Step → Answer
-ofStep (step.Interval t o n) = gives (t ∷ o ∷ n .word ∷ [])
+ofStep (step.Interval t o c n) = gives (t ∷ o ∷ n .word ∷ c ∷ [])
 ofStep (step.Open o n) = gives (o ∷ n .word ∷ [])
 ofStep (step.Refused r) = refused (r .number) (r .position)
 
 -- F-9, F-10: the cursor is at word `from`; p ticks are pending at word n, where the words ws are left. The first closing word gives the
--- interval, and the cursor just past it; where none is left, the open time, and the cursor unchanged.
+-- interval, the cursor just past it, and its own number; where none is left, the open time, and the cursor unchanged.
 unfoldable pub stepFrom : ℕ → ℕ → ℕ → List ℕ → Answer
 stepFrom from p n [] = gives (p ∷ from ∷ [])
 stepFrom from p n (zero ∷ ws) = stepFrom from (p + zeroTicks) (n + 1) ws
-stepFrom from p n (suc w ∷ ws) = gives ((p + suc w) ∷ 0 ∷ (n + 1) ∷ [])
+stepFrom from p n (suc w ∷ ws) = gives ((p + suc w) ∷ 0 ∷ (n + 1) ∷ n ∷ [])
 
 -- F-9, F-4: a step over flux bytes s with the cursor at word n: zero words count from there on. R-17 comes first.
 abbrev pub stepAt : List ℕ → ℕ → Answer
@@ -78,15 +78,29 @@ abbrev pub ofFilled : Filled → Answer
 ofFilled (filled.Places n o) = gives (n ∷ o ∷ [])
 ofFilled (filled.Refused r) = refused (r .number) (r .position)
 
--- F-12: the intervals ts with open time o, into so many places.
+-- F-12: a list xs made of the flux, whose open time is o, into so many places.
 abbrev pub readInto : ℕ → List ℕ → ℕ → Filling
-readInto places ts o = inPlaces places (length ts ∷ o ∷ []) ts
+readInto places xs o = inPlaces places (length xs ∷ o ∷ []) xs
 
--- F-12, F-4, RO-8: the intervals of flux bytes s, into so many places: 17, then 15.
+-- F-12, RO-8: a list xs made of flux bytes s, into so many places: 17, then 15.
+abbrev pub listRead : List ℕ → ℕ → List ℕ → Filling
+listRead s places xs = cond (badFluxSize (length s)) (refuses wordsRefused 0) (readInto places xs (openTime 0 (wordsOf s)))
+
+-- F-12, F-4: the intervals of flux bytes s, into so many places.
 abbrev pub reading : List ℕ → ℕ → Filling
-reading s places =
-    cond (badFluxSize (length s)) (refuses wordsRefused 0)
-    (readInto places (intervals 0 (wordsOf s)) (openTime 0 (wordsOf s)))
+reading s places = listRead s places (intervals 0 (wordsOf s))
+
+-- F-18, F-19: the numbers of the closing words of flux bytes s, into so many places.
+abbrev pub closingReading : List ℕ → ℕ → Filling
+closingReading s places = listRead s places (closingNumbers 0 (wordsOf s))
+
+-- F-19: the intervals of flux bytes s into the times, where their closing words go to the closings: into as many places as both lists have.
+abbrev pub closedTimes : List ℕ → List ℕ → List ℕ → Filling
+closedTimes s times closings = reading s (min (length times) (length closings))
+
+-- F-19: and the numbers of their closing words into the closings.
+abbrev pub closedNumbers : List ℕ → List ℕ → List ℕ → Filling
+closedNumbers s times closings = closingReading s (min (length times) (length closings))
 
 -- ---- words from times
 

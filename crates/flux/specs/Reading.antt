@@ -1,4 +1,4 @@
--- From words to intervals (F-2 to F-7).
+-- From words to intervals (F-2 to F-7), and which words close them (F-18).
 use Prim.Native.Nat.{ℕ, zero, suc, _+_}
 use mathlib.Core.List.{List, [], _∷_}
 
@@ -29,3 +29,9 @@ unfoldable pub totalTicks : List ℕ → ℕ
 totalTicks [] = 0
 totalTicks (zero ∷ ws) = zeroTicks + totalTicks ws
 totalTicks (suc w ∷ ws) = suc w + totalTicks ws
+
+-- F-18: the numbers of the words that are not zero, in order; the first word has number n.
+unfoldable pub closingNumbers : ℕ → List ℕ → List ℕ
+closingNumbers n [] = []
+closingNumbers n (zero ∷ ws) = closingNumbers (n + 1) ws
+closingNumbers n (suc w ∷ ws) = n ∷ closingNumbers (n + 1) ws

@@ -1,16 +1,17 @@
 // Flux words and the intervals that they stand for (SCP 1.6, track data): a cursor that steps from interval to interval, all
-// intervals at one go, and the words of times.
+// intervals at one go, with the words that close them or without, and the words of times.
 ghost use mathlib.Core.Path.{_≡_};
-ghost use Prim.Native.Nat.{_+_, _*_, _<_, _≤_};
-ghost use lib.ListN.{length, replicate, drop};
+ghost use Prim.Native.Nat.{_+_, _*_, _<_, _≤_, min};
+ghost use lib.ListN.{length, replicate, drop, set};
 ghost use lib.Dec.{leb};
 ghost use lib.Seq.{sets};
 ghost use mathlib.Core.List.{[], _∷_, _++_};
+ghost use mathlib.Core.Bool.{true, cond};
 ghost use Rattle.octets.specs.Numbers.{be16At};
 ghost use Rattle.flux.specs.Coding.{wordsOf, bytesOf, badFluxSize, fluxLimit};
-ghost use Rattle.flux.specs.Reading.{intervals, openTime, closingWords};
+ghost use Rattle.flux.specs.Reading.{intervals, openTime, closingWords, closingNumbers};
 ghost use Rattle.flux.specs.Writing.{expressible, wordsFor};
-ghost use Rattle.flux.specs.Answers.{gives, ofStep, stepAt, ofFilled, reading, ofWritten, writing, answerOf, bufferAfter};
+ghost use Rattle.flux.specs.Answers.{gives, ofStep, stepAt, ofFilled, reading, closingReading, closedTimes, closedNumbers, ofWritten, writing, answerOf, bufferAfter};
 use refusals::Refusal;
 
 // The ticks of a zero word, which closes no interval (F-2).
@@ -29,10 +30,18 @@ pub struct Cursor {
 
 // What a step finds (A-3).
 pub enum Step {
-    // A word closes an interval; beside an interval the open time is 0, and next is past that word.
-    Interval { ticks: u64, open: u64, next: Cursor },
+    // A word closes an interval; beside an interval the open time is 0, closing is the number of that word, and next is past it.
+    Interval {
+        ticks: u64,
+        open: u64,
+        closing: usize,
+        next: Cursor,
+    },
     // No closing word is left: the open time from the cursor on, and the cursor as it was.
-    Open { open: u64, next: Cursor },
+    Open {
+        open: u64,
+        next: Cursor,
+    },
     Refused(Refusal),
 }
 
@@ -87,15 +96,17 @@ impl Cursor {
         let mut i = from;
         while i < words {
             let w = word_at(flux, i);
-            i += 1;
             if w != 0 {
                 let interval = ticks + w as u64;
+                let next = i + 1;
                 return Step::Interval {
                     ticks: interval,
                     open: 0,
-                    next: Cursor { word: i },
+                    closing: i,
+                    next: Cursor { word: next },
                 };
             }
+            i += 1;
             ticks += ZERO_TICKS;
         }
         Step::Open {
@@ -132,12 +143,25 @@ fn enough_places(flux: &[u8], places: usize) -> bool
     count_closing(flux) <= places
 }
 
-// Writes the intervals at the start of the times, which have places for them.
-fn fill(flux: &[u8], times: &mut [u64]) -> Filled
+// Puts the number of a closing word at place n, where these numbers are wanted.
+fn put_closing(closings: &mut [u64], n: usize, word: usize, wanted: bool)
+    requires { ⌜ (wanted ≡ true → n < length (now closings)) ⌝ }
+    ensures { λ _. ⌜ now (closings .exit) ≡ cond wanted (set (now (closings .entry)) n word) (now (closings .entry)) ⌝ }
+{
+    if wanted {
+        closings[n] = word as u64;
+    }
+}
+
+// Writes the intervals at the start of the times and, where these are wanted, the numbers of their closing words at the start of the closings.
+// There are places for them.
+fn fill(flux: &[u8], times: &mut [u64], closings: &mut [u64], wanted: bool) -> Filled
     requires { ⌜ length (now flux) ≤ fluxLimit ⌝ }
     requires { ⌜ length (intervals 0 (wordsOf (now flux))) ≤ length (now times) ⌝ }
+    requires { ⌜ (wanted ≡ true → length (intervals 0 (wordsOf (now flux))) ≤ length (now closings)) ⌝ }
     ensures { λ r. ⌜ ofFilled r ≡ gives (length (intervals 0 (wordsOf (now (flux .entry)))) ∷ openTime 0 (wordsOf (now (flux .entry))) ∷ []) ⌝ }
-    ensures { λ r. ⌜ now (times .exit) ≡ intervals 0 (wordsOf (now (flux .entry))) ++ drop (length (intervals 0 (wordsOf (now (flux .entry))))) (now (times .entry)) ⌝ }
+    ensures { λ _. ⌜ now (times .exit) ≡ intervals 0 (wordsOf (now (flux .entry))) ++ drop (length (intervals 0 (wordsOf (now (flux .entry))))) (now (times .entry)) ⌝ }
+    ensures { λ _. ⌜ now (closings .exit) ≡ cond wanted (closingNumbers 0 (wordsOf (now (flux .entry))) ++ drop (length (closingNumbers 0 (wordsOf (now (flux .entry))))) (now (closings .entry))) (now (closings .entry)) ⌝ }
 {
     let words = flux.len() / 2;
     let mut pending: u64 = 0;
@@ -145,12 +169,14 @@ fn fill(flux: &[u8], times: &mut [u64]) -> Filled
     let mut i: usize = 0;
     while i < words {
         let w = word_at(flux, i);
-        i += 1;
         if w == 0 {
+            i += 1;
             pending += ZERO_TICKS;
         } else {
             times[n] = pending + w as u64;
+            put_closing(closings, n, i, wanted);
             n += 1;
+            i += 1;
             pending = 0;
         }
     }
@@ -160,21 +186,57 @@ fn fill(flux: &[u8], times: &mut [u64]) -> Filled
     }
 }
 
-// All intervals of the flux bytes at one go, at the start of the times.
-pub fn intervals(flux: &[u8], times: &mut [u64]) -> Filled
-    ensures { λ r. ⌜ ofFilled r ≡ answerOf (reading (now (flux .entry)) (length (now (times .entry)))) ⌝ }
-    ensures { λ r. ⌜ now (times .exit) ≡ bufferAfter (now (times .entry)) (reading (now (flux .entry)) (length (now (times .entry)))) ⌝ }
+// The intervals into so many places of the times and, where these are wanted, the numbers of their closing words into so many of the closings.
+fn read_into(
+    flux: &[u8],
+    times: &mut [u64],
+    closings: &mut [u64],
+    places: usize,
+    wanted: bool,
+) -> Filled
+    requires { ⌜ places ≤ length (now times) ⌝ }
+    requires { ⌜ (wanted ≡ true → places ≤ length (now closings)) ⌝ }
+    ensures { λ r. ⌜ ofFilled r ≡ answerOf (reading (now (flux .entry)) places) ⌝ }
+    ensures { λ _. ⌜ now (times .exit) ≡ bufferAfter (now (times .entry)) (reading (now (flux .entry)) places) ⌝ }
+    ensures { λ _. ⌜ now (closings .exit) ≡ cond wanted (bufferAfter (now (closings .entry)) (closingReading (now (flux .entry)) places)) (now (closings .entry)) ⌝ }
 {
     let n = flux.len();
     if bad_flux_size(n) {
         return Filled::Refused(refusals::refuse(refusals::WORDS, 0));
     }
-    let places = times.len();
     if enough_places(flux, places) {
-        fill(flux, times)
+        fill(flux, times, closings, wanted)
     } else {
         Filled::Refused(refusals::refuse(refusals::PLACES, 0))
     }
+}
+
+// All intervals of the flux bytes at one go, at the start of the times.
+pub fn intervals(flux: &[u8], times: &mut [u64]) -> Filled
+    ensures { λ r. ⌜ ofFilled r ≡ answerOf (reading (now (flux .entry)) (length (now (times .entry)))) ⌝ }
+    ensures { λ r. ⌜ now (times .exit) ≡ bufferAfter (now (times .entry)) (reading (now (flux .entry)) (length (now (times .entry)))) ⌝ }
+{
+    let places = times.len();
+    // The closing words are not wanted, and this list is not looked at.
+    let mut unused: [u64; 1] = [0];
+    read_into(flux, times, &mut unused, places, false)
+}
+
+// The number of places that two lists both have.
+fn smaller(a: usize, b: usize) -> usize
+    ensures { λ r. ⌜ r ≡ min a b ⌝ }
+{
+    if a < b { a } else { b }
+}
+
+// All intervals of the flux bytes at one go, at the start of the times, and the number of the word that closes each at the start of the closings.
+pub fn closed_intervals(flux: &[u8], times: &mut [u64], closings: &mut [u64]) -> Filled
+    ensures { λ r. ⌜ ofFilled r ≡ answerOf (closedTimes (now (flux .entry)) (now (times .entry)) (now (closings .entry))) ⌝ }
+    ensures { λ _. ⌜ now (times .exit) ≡ bufferAfter (now (times .entry)) (closedTimes (now (flux .entry)) (now (times .entry)) (now (closings .entry))) ⌝ }
+    ensures { λ _. ⌜ now (closings .exit) ≡ bufferAfter (now (closings .entry)) (closedNumbers (now (flux .entry)) (now (times .entry)) (now (closings .entry))) ⌝ }
+{
+    let places = smaller(times.len(), closings.len());
+    read_into(flux, times, closings, places, true)
 }
 
 // Whether words can express a time.

@@ -1,15 +1,15 @@
 // The calls on flux, answered by a code and by values put to the start of a lent buffer (include/scp.h).
 ghost use mathlib.Core.Path.{_≡_};
 ghost use lib.ListN.{length};
-ghost use Rattle.flux.specs.Answers.{stepAt, reading, writing, bufferAfter};
+ghost use Rattle.flux.specs.Answers.{stepAt, ofFilled, reading, closedTimes, closedNumbers, writing, bufferAfter};
 ghost use Rattle.boundary.specs.Boundary.{codeOf, within, outAfter};
-ghost use Rattle.scp_boundary.specs.Boundary.{stepNumbers, both, valuesOf};
+ghost use Rattle.scp_boundary.specs.Boundary.{stepNumbers, givenOf, both, valuesOf};
 use flux::Cursor;
 use flux::Filled;
 use flux::Step;
 use flux::Written;
 
-// A step of the cursor: interval (0: none), open ticks, next word number.
+// A step of the cursor: interval (0: none), open ticks, next word, closing word (0 where there is no interval).
 pub fn step(flux: &[u8], word: u64, out: &mut [u64]) -> u64
     ensures { λ r. ⌜ r ≡ codeOf (within (length (now (out .entry))) (stepNumbers (stepAt (now (flux .entry)) word))) ⌝ }
     ensures { λ _. ⌜ now (out .exit) ≡ outAfter (now (out .entry)) (within (length (now (out .entry))) (stepNumbers (stepAt (now (flux .entry)) word))) ⌝ }
@@ -19,15 +19,34 @@ pub fn step(flux: &[u8], word: u64, out: &mut [u64]) -> u64
     };
     let found = cursor.step(flux);
     match found {
-        Step::Interval { ticks, open, next } => {
-            let row = [ticks, open, next.word as u64];
+        Step::Interval {
+            ticks,
+            open,
+            closing,
+            next,
+        } => {
+            let row = [ticks, open, next.word as u64, closing as u64];
             boundary::give(out, &row)
         }
         Step::Open { open, next } => {
-            let row = [0, open, next.word as u64];
+            let row = [0, open, next.word as u64, 0];
             boundary::give(out, &row)
         }
         Step::Refused(r) => boundary::code(r),
+    }
+}
+
+// The values of filled places to `out`: their count, and the open ticks.
+fn give_filled(out: &mut [u64], found: Filled) -> u64
+    ensures { λ r. ⌜ r ≡ codeOf (within (length (now (out .entry))) (givenOf (ofFilled found))) ⌝ }
+    ensures { λ _. ⌜ now (out .exit) ≡ outAfter (now (out .entry)) (within (length (now (out .entry))) (givenOf (ofFilled found))) ⌝ }
+{
+    match found {
+        Filled::Places { filled, open } => {
+            let row = [filled as u64, open];
+            boundary::give(out, &row)
+        }
+        Filled::Refused(r) => boundary::code(r),
     }
 }
 
@@ -39,13 +58,25 @@ pub fn intervals(flux: &[u8], times: &mut [u64], out: &mut [u64]) -> u64
 {
     let places = boundary::lent(times.len(), out.len(), 2);
     let found = flux::intervals(flux, &mut times[..places]);
-    match found {
-        Filled::Places { filled, open } => {
-            let row = [filled as u64, open];
-            boundary::give(out, &row)
-        }
-        Filled::Refused(r) => boundary::code(r),
-    }
+    give_filled(out, found)
+}
+
+// All intervals at one go, with their closing words: the intervals to `times`, the numbers of these words to `closings`; count, open ticks to
+// `out`.
+pub fn closed_intervals(
+    flux: &[u8],
+    times: &mut [u64],
+    closings: &mut [u64],
+    out: &mut [u64],
+) -> u64
+    ensures { λ r. ⌜ r ≡ codeOf (valuesOf (both (length (now (out .entry))) (closedTimes (now (flux .entry)) (now (times .entry)) (now (closings .entry))))) ⌝ }
+    ensures { λ _. ⌜ now (times .exit) ≡ bufferAfter (now (times .entry)) (both (length (now (out .entry))) (closedTimes (now (flux .entry)) (now (times .entry)) (now (closings .entry)))) ⌝ }
+    ensures { λ _. ⌜ now (closings .exit) ≡ bufferAfter (now (closings .entry)) (both (length (now (out .entry))) (closedNumbers (now (flux .entry)) (now (times .entry)) (now (closings .entry)))) ⌝ }
+    ensures { λ _. ⌜ now (out .exit) ≡ outAfter (now (out .entry)) (valuesOf (both (length (now (out .entry))) (closedTimes (now (flux .entry)) (now (times .entry)) (now (closings .entry))))) ⌝ }
+{
+    let room = boundary::lent(times.len(), out.len(), 2);
+    let found = flux::closed_intervals(flux, &mut times[..room], closings);
+    give_filled(out, found)
 }
 
 // Words from times: the bytes to `words`; their number to `out`.

@@ -60,8 +60,14 @@ fn stepped_to(open: u64, next: Cursor) {
 
 fn stepped(s: Step) {
     match s {
-        Step::Interval { ticks, open, next } => {
+        Step::Interval {
+            ticks,
+            open,
+            closing,
+            next,
+        } => {
             field(b" interval ", ticks);
+            field(b" closing ", closing as u64);
             stepped_to(open, next);
         }
         Step::Open { open, next } => stepped_to(open, next),
@@ -114,6 +120,22 @@ fn read(flux: &[u8], places: usize)
     filled(answer);
 }
 
+// The intervals of the flux and the words that close them at one go, into so many places each, which hold 7, 8, 9 .. and 17, 18, 19 .. before
+// the call.
+fn closed(flux: &[u8], places: usize, more: usize)
+    requires { ⌜ (places ≤ 6) × (more ≤ 6) ⌝ }
+{
+    let mut times = [7, 8, 9, 10, 11, 12];
+    let mut closings = [17, 18, 19, 20, 21, 22];
+    let lent = &mut times[..places];
+    let also_lent = &mut closings[..more];
+    let answer = flux::closed_intervals(flux, lent, also_lent);
+    digest(b"closed ", flux);
+    numbers(b" leaves", lent);
+    numbers(b" and", also_lent);
+    filled(answer);
+}
+
 // The words of the times, into so many bytes, which hold 7, 8, 9 .. before the call.
 fn write(ticks: &[u64], room: usize)
     requires { ⌜ room ≤ 8 ⌝ }
@@ -136,11 +158,14 @@ fn step(flux: &[u8], word: usize) {
 
 // ---- cases
 
-// Short flux, at one go into 0 to 6 places, and by a step from each of the words 0 to 6 and from the largest.
+// Short flux, at one go into 0 to 6 places, with its closing words where either list has so many, and by a step from each of the words 0 to 6
+// and from the largest.
 fn short(flux: &[u8]) {
     let mut n: usize = 0;
     while n <= 6 {
         read(flux, n);
+        closed(flux, n, 6);
+        closed(flux, 6, n);
         step(flux, n);
         n += 1;
     }
@@ -152,6 +177,9 @@ fn long(flux: &[u8]) {
     read(flux, 0);
     read(flux, 1);
     read(flux, 2);
+    closed(flux, 1, 2);
+    closed(flux, 2, 1);
+    closed(flux, 2, 2);
     step(flux, 0);
     step(flux, 65_535);
     step(flux, 65_536);

@@ -1,4 +1,5 @@
 pub mod Counting
+pub mod Closing
 pub mod Stepping
 pub mod RoundTrips
 pub mod Inexpressible

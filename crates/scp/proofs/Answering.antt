@@ -1,4 +1,4 @@
--- An answer, unless it is refused; what refuses validating; and answers whose values are equal.
+-- An answer, unless it is refused; what refuses validating; answers whose values are equal; and what is read of a revolution's flux.
 use Prim.Native.Nat.{ℕ}
 use mathlib.Core.Path.{_≡_, refl, sym, ap, _∙_}
 use mathlib.Core.List.{List, [], _∷_}
@@ -8,6 +8,7 @@ use lib.Dec.{eqb}
 use lib.IntN.{ℤ}
 use lib.Ieee.{Float}
 use borrow.Author.Tests.{eq-eqb, ne-eqb}
+use Rattle.flux.specs.Answers.{Filling, refuses}
 use Rattle.refusals.specs.declared.Refusal.{Refusal}
 use Rattle.refusals.specs.Refusals.{refusal, passes, refuseIf}
 use Rattle.refusals.specs.Refusals as refusals
@@ -25,7 +26,7 @@ use Rattle.scp_lookup.specs.declared.RevolutionAnswer.the-variants as revolutio
 use Rattle.scp_speed.specs.Speeds.{rpmOf, speedOf}
 use Rattle.scp_speed.specs.declared.Speed.the-variants as speed
 use Rattle.scp.specs.Validating.{wantedSum, badSum, validateFault}
-use Rattle.scp.specs.Answers.{Answer, refused, none, footer, speeds, bytes, unless, ofTrack, trackValues, trackAnswer, ofSpeedOnly, ofRevolution, revolutionValues, revolutionAnswer, fluxAnswer}
+use Rattle.scp.specs.Answers.{Answer, refused, none, footer, speeds, bytes, unless, ofTrack, trackValues, trackAnswer, ofSpeedOnly, ofRevolution, revolutionValues, revolutionAnswer, fluxAnswer, readFrom}
 
 -- ---- an answer, unless it is refused
 
@@ -144,3 +145,12 @@ module _ (v : Edition) (b : List ℕ) (t k : ℕ) where
       → refused (r .number) (r .position) ≡ fluxAnswer v b t k
   unfolding foundRevolution revolutionAnswer
   flux-refused = flux-untold b t k (revolutionQuestion v b t k)
+
+-- ---- what is read of a revolution's flux, of one that is found and of one that is refused
+
+module _ (read : List ℕ → ℕ → Filling) (b : List ℕ) (places : ℕ) {r : RevolutionAnswer} where
+  pub read-found : {s : List ℕ} {d : RevolutionData} → s ≡ fluxOf b d → revolution-answer.Found d ≡ r → read s places ≡ readFrom read b places r
+  read-found e found = ap (λ (s : List ℕ). read s places) e ∙ ap (readFrom read b places) found
+
+  pub read-refused : {f : Refusal} → revolution-answer.Refused f ≡ r → refuses (f .number) (f .position) ≡ readFrom read b places r
+  read-refused found = ap (readFrom read b places) found

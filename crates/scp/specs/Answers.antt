@@ -1,12 +1,13 @@
 -- What each call on an image answers, by the edition that it names: a definition gives the number and the values of each case (A-2).
-use Prim.Native.Nat.{ℕ, _+_}
+use Prim.Native.Nat.{ℕ, _+_, min}
 use mathlib.Core.List.{List, [], _∷_}
 use mathlib.Core.Bool.{cond}
+use lib.ListN.{length}
 use lib.Dec.{eqb}
 use lib.IntN.{ℤ}
 use lib.Ieee.{Float}
 use Rattle.refusals.specs.declared.Refusal.{Refusal}
-use Rattle.flux.specs.Answers.{Filling, refuses, reading}
+use Rattle.flux.specs.Answers.{Filling, refuses, reading, closingReading}
 use Rattle.octets.specs.Numbers.{byteAt, le64At}
 use Rattle.refusals.specs.Refusals.{passes}
 use Rattle.scp_fields.specs.declared.Edition.{Edition}
@@ -189,11 +190,20 @@ trackSpeedAnswer v b t = unless (trackQuestion v b t) (ofSpeedRange (speedsOf b 
 
 -- ---- its intervals at one go
 
--- T-9: what reading the intervals of a revolution into so many places gives: what refuses the revolution, then 15.
-abbrev pub intervalsOf : List ℕ → ℕ → RevolutionAnswer → Filling
-intervalsOf b places (revolution-answer.Found d) = reading (fluxOf b d) places
-intervalsOf b places (revolution-answer.Refused r) = refuses (r .number) (r .position)
+-- T-9, T-15: what `read` gives of the flux of a revolution, into so many places; or what refuses the revolution.
+abbrev pub readFrom : (List ℕ → ℕ → Filling) → List ℕ → ℕ → RevolutionAnswer → Filling
+readFrom read b places (revolution-answer.Found d) = read (fluxOf b d) places
+readFrom read b places (revolution-answer.Refused r) = refuses (r .number) (r .position)
 
 -- T-9: the intervals of revolution k of track t, into so many places.
 abbrev pub revolutionReading : Edition → List ℕ → ℕ → ℕ → ℕ → Filling
-revolutionReading v b t k places = intervalsOf b places (foundRevolution v b t k)
+revolutionReading v b t k places = readFrom reading b places (foundRevolution v b t k)
+
+-- T-15: the intervals of revolution k of track t into the times, where their closing words go to the closings: into as many places as both
+-- lists have.
+abbrev pub revolutionClosedTimes : Edition → List ℕ → ℕ → ℕ → List ℕ → List ℕ → Filling
+revolutionClosedTimes v b t k times closings = revolutionReading v b t k (min (length times) (length closings))
+
+-- T-15: and the numbers of their closing words into the closings.
+abbrev pub revolutionClosedNumbers : Edition → List ℕ → ℕ → ℕ → List ℕ → List ℕ → Filling
+revolutionClosedNumbers v b t k times closings = readFrom closingReading b (min (length times) (length closings)) (foundRevolution v b t k)

@@ -7,7 +7,7 @@ ghost use Rattle.scp_fields.specs.Editions.{tableAt};
 ghost use Rattle.scp_fields.specs.Header.{footerSize};
 ghost use Rattle.scp.specs.Validating.{wantedSum};
 ghost use Rattle.flux.specs.Answers.{ofFilled, answerOf, bufferAfter};
-ghost use Rattle.scp.specs.Answers.{ofValidated, validateAnswer, ofHeader, headerAnswer, ofFooterData, footerValues, ofFooter, footerAnswer, ofTrack, trackAnswer, ofRevolution, revolutionAnswer, fluxPart, fluxStart, ofSpeed, speedAnswer, ofTrackSpeed, trackSpeedAnswer, revolutionReading};
+ghost use Rattle.scp.specs.Answers.{ofValidated, validateAnswer, ofHeader, headerAnswer, ofFooterData, footerValues, ofFooter, footerAnswer, ofTrack, trackAnswer, ofRevolution, revolutionAnswer, fluxPart, fluxStart, ofSpeed, speedAnswer, ofTrackSpeed, trackSpeedAnswer, revolutionReading, revolutionClosedTimes, revolutionClosedNumbers};
 use flux::Filled;
 use refusals::Refusal;
 use scp_fields::Edition;
@@ -190,6 +190,29 @@ pub fn revolution_intervals(
             flux::intervals(part, times)
         }
         RevolutionAnswer::Refused(r) => Filled::Refused(r),
+    }
+}
+
+// All intervals of a revolution at one go, at the start of the times, and the number of the word that closes each at the start of the closings.
+pub fn revolution_closed_intervals(
+    image: &[u8],
+    edition: Edition,
+    track: u32,
+    revolution: u32,
+    times: &mut [u64],
+    closings: &mut [u64],
+) -> Filled
+    ensures { λ r. ⌜ ofFilled r ≡ answerOf (revolutionClosedTimes edition (now (image .entry)) track revolution (now (times .entry)) (now (closings .entry))) ⌝ }
+    ensures { λ _. ⌜ now (times .exit) ≡ bufferAfter (now (times .entry)) (revolutionClosedTimes edition (now (image .entry)) track revolution (now (times .entry)) (now (closings .entry))) ⌝ }
+    ensures { λ _. ⌜ now (closings .exit) ≡ bufferAfter (now (closings .entry)) (revolutionClosedNumbers edition (now (image .entry)) track revolution (now (times .entry)) (now (closings .entry))) ⌝ }
+{
+    let found = scp_lookup::find_revolution(image, edition, track, revolution);
+    match found {
+        RevolutionAnswer::Found(data) => {
+            let part = scp_lookup::flux_of(image, data);
+            flux::closed_intervals(part, times, closings)
+        }
+        RevolutionAnswer::Refused(refusal) => Filled::Refused(refusal),
     }
 }
 

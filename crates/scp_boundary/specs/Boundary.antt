@@ -38,21 +38,25 @@ floatsOf n (bytes start b) = gives []
 
 -- ---- flux, which stands in no image
 
--- C-11: a step as interval (0: none), open ticks, next word number: one that gives no interval has two values.
-abbrev pub three : List ℕ → List ℕ
-three vs = cond (eqb (length vs) 2) (0 ∷ vs) vs
+-- C-11: a step as interval, open ticks, next word, closing word: one that gives no interval has two values, and zeros around them.
+abbrev pub four : List ℕ → List ℕ
+four vs = cond (eqb (length vs) 2) (0 ∷ (vs ++ (0 ∷ []))) vs
 
--- C-11: a step as three numbers.
+-- C-11: a step as four numbers.
 abbrev pub stepNumbers : flux.Answer → Given ℕ
 stepNumbers (flux.refused number position) = refuses number position
-stepNumbers (flux.gives vs) = gives (three vs)
+stepNumbers (flux.gives vs) = gives (four vs)
 
--- C-12: an answer that fills a buffer has its values put to `out`, too: 15 where either is too short.
+-- C-12, C-25: an answer as what is put to `out`.
+abbrev pub givenOf : flux.Answer → Given ℕ
+givenOf (flux.refused number position) = refuses number position
+givenOf (flux.gives vs) = gives vs
+
+-- C-12, C-25: an answer that fills a buffer has its values put to `out`, too: 15 where that is too short.
 abbrev pub both : ℕ → flux.Filling → flux.Filling
 both places (flux.refuses number position) = flux.refuses number position
 both places (flux.fills vs xs) = cond (ltb places (length vs)) (flux.refuses 15 0) (flux.fills vs xs)
 
--- C-12: what is put to `out`.
+-- C-12, C-25: what is put to `out` of an answer that fills a buffer.
 abbrev pub valuesOf : flux.Filling → Given ℕ
-valuesOf (flux.refuses number position) = refuses number position
-valuesOf (flux.fills vs xs) = gives vs
+valuesOf f = givenOf (flux.answerOf f)

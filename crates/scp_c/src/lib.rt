@@ -4,7 +4,7 @@
 ghost use mathlib.Core.Path.{_≡_};
 ghost use lib.ListN.{length};
 ghost use Rattle.scp_fields.specs.Editions.{editionOf};
-ghost use Rattle.flux.specs.Answers.{stepAt, reading, writing, bufferAfter};
+ghost use Rattle.flux.specs.Answers.{stepAt, reading, closedTimes, closedNumbers, writing, bufferAfter};
 ghost use Rattle.scp.specs.Answers.{Answer, validateAnswer, headerAnswer, footerAnswer, trackAnswer, revolutionAnswer, fluxAnswer, speedAnswer, trackSpeedAnswer};
 ghost use Rattle.scp_direct.specs.Direct.{directTrack, directRevolution, directFlux};
 ghost use Rattle.scp_rewrite.specs.Answering.{rewriteAnswer};
@@ -151,7 +151,7 @@ pub extern "C" fn scp_track_speed(image: &[u8], edition: u32, track: u32, out: &
 
 // ---- flux
 
-// A step of the cursor: interval (0: none), open ticks, next word number.
+// A step of the cursor: interval (0: none), open ticks, next word, closing word (0 where there is no interval).
 #[no_mangle]
 pub extern "C" fn scp_step(flux: &[u8], word: u64, out: &mut [u64]) -> u64
     ensures { λ r. ⌜ r ≡ codeOf (within (length (now (out .entry))) (stepNumbers (stepAt (now (flux .entry)) word))) ⌝ }
@@ -168,6 +168,23 @@ pub extern "C" fn scp_intervals(flux: &[u8], times: &mut [u64], out: &mut [u64])
     ensures { λ _. ⌜ now (out .exit) ≡ outAfter (now (out .entry)) (valuesOf (both (length (now (out .entry))) (reading (now (flux .entry)) (length (now (times .entry)))))) ⌝ }
 {
     flux_coded::intervals(flux, times, out)
+}
+
+// All intervals at one go, with their closing words: the intervals to `times`, the numbers of these words to `closings`; count, open ticks to
+// `out`.
+#[no_mangle]
+pub extern "C" fn scp_closed_intervals(
+    flux: &[u8],
+    times: &mut [u64],
+    closings: &mut [u64],
+    out: &mut [u64],
+) -> u64
+    ensures { λ r. ⌜ r ≡ codeOf (valuesOf (both (length (now (out .entry))) (closedTimes (now (flux .entry)) (now (times .entry)) (now (closings .entry))))) ⌝ }
+    ensures { λ _. ⌜ now (times .exit) ≡ bufferAfter (now (times .entry)) (both (length (now (out .entry))) (closedTimes (now (flux .entry)) (now (times .entry)) (now (closings .entry)))) ⌝ }
+    ensures { λ _. ⌜ now (closings .exit) ≡ bufferAfter (now (closings .entry)) (both (length (now (out .entry))) (closedNumbers (now (flux .entry)) (now (times .entry)) (now (closings .entry)))) ⌝ }
+    ensures { λ _. ⌜ now (out .exit) ≡ outAfter (now (out .entry)) (valuesOf (both (length (now (out .entry))) (closedTimes (now (flux .entry)) (now (times .entry)) (now (closings .entry))))) ⌝ }
+{
+    flux_coded::closed_intervals(flux, times, closings, out)
 }
 
 // Words from times: the bytes to `words`; their number to `out`.

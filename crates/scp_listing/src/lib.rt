@@ -1,6 +1,10 @@
 // The listing of an image by edition 1.6, written to standard output. The image is opened once, when it is validated: what is valid is then
 // read by its fields, each by its one reading in `scp_fields`, `scp_tracks` and `flux`.
 ghost use mathlib.Core.Path.{_≡_};
+ghost use mathlib.Core.Bool.{false};
+ghost use lib.ListN.{length};
+ghost use Rattle.flux.specs.Coding.{badFluxSize};
+ghost use Rattle.scp_listing.specs.Counting.{Counts};
 ghost use Rattle.scp_fields.specs.declared.Edition.the-variants.{V1_6};
 ghost use Rattle.scp.specs.Answers.{ofValidated, validateAnswer};
 ghost use Rattle.refusals.specs.Refusals.{refusal};
@@ -34,17 +38,21 @@ fn print_refusal(r: Refusal) {
     newline();
 }
 
-// How many intervals flux has, and its open time.
+// How many intervals flux has, its open time, and the number of its last closing word, 0 where there is no interval.
 struct Counted {
     intervals: u64,
     open: u64,
+    last: usize,
 }
 
-// The count of the intervals and the open time, in one pass: a step for each interval, of which there are fewer than bytes, and one more for
-// the open time.
-fn count_flux(flux: &[u8]) -> Counted {
+// The count of the intervals, the open time and the last closing word, in one pass: a step for each interval, of which there are fewer than
+// bytes, and one more for the open time.
+fn count_flux(flux: &[u8]) -> Counted
+    ensures { λ r. ⌜ (badFluxSize (length (now (flux .entry))) ≡ false → Counts (now (flux .entry)) (r .intervals) (r .«open») (r .last)) ⌝ }
+{
     let mut word: usize = 0;
     let mut intervals: u64 = 0;
+    let mut last: usize = 0;
     let mut left = flux.len();
     while 0 < left {
         left -= 1;
@@ -53,26 +61,46 @@ fn count_flux(flux: &[u8]) -> Counted {
             Step::Interval {
                 ticks: _,
                 open: _,
+                closing,
                 next,
             } => {
+                last = closing;
                 word = next.word;
                 intervals = std::num::wrapping_add_u64(intervals, 1);
             }
             Step::Open { open, next: _ } => {
-                return Counted { intervals, open };
+                return Counted {
+                    intervals,
+                    open,
+                    last,
+                };
             }
             Step::Refused(_) => {
                 left = 0;
             }
         }
     }
-    Counted { intervals, open: 0 }
+    Counted {
+        intervals,
+        open: 0,
+        last,
+    }
+}
+
+// The number of the last closing word, or a dash where there is none.
+fn print_last(counted: Counted) {
+    if counted.intervals == 0 {
+        text(b" last -");
+    } else {
+        field(b" last ", counted.last as u64);
+    }
 }
 
 fn print_flux(flux: &[u8]) {
     let counted = count_flux(flux);
     field(b" intervals ", counted.intervals);
     field(b" open ", counted.open);
+    print_last(counted);
 }
 
 // The line of revolution k of track t, whose header stands at the entry.

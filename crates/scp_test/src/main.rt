@@ -150,15 +150,34 @@ fn print_speed(image: &[u8], edition: Edition, t: u32, k: u32) {
     }
 }
 
-fn print_intervals(image: &[u8], edition: Edition, t: u32, k: u32) {
-    text(b" intervals");
-    match scp::revolution_intervals(image, edition, t, k, &mut [0; 2]) {
+fn print_filled(answer: Filled) {
+    match answer {
         Filled::Places { filled, open } => {
             field(b" filled ", filled as u64);
             field(b" open ", open);
         }
         Filled::Refused(r) => print_refusal(r),
     }
+}
+
+fn print_intervals(image: &[u8], edition: Edition, t: u32, k: u32) {
+    text(b" intervals");
+    print_filled(scp::revolution_intervals(image, edition, t, k, &mut [0; 2]));
+}
+
+// The intervals with their closing words, into three places and two: the answer, and what the two then hold.
+fn print_closed(image: &[u8], edition: Edition, t: u32, k: u32) {
+    let mut times = [4, 5, 6];
+    let mut closings = [7, 8];
+    text(b" closed");
+    print_filled(scp::revolution_closed_intervals(image, edition, t, k, &mut times, &mut closings));
+    text(b" times");
+    number(times[0]);
+    number(times[1]);
+    number(times[2]);
+    text(b" by");
+    number(closings[0]);
+    number(closings[1]);
 }
 
 fn revolution_fields(d: RevolutionData) {
@@ -180,6 +199,7 @@ fn print_revolution(image: &[u8], edition: Edition, t: u32, k: u32) {
             print_flux(image, edition, t, k);
             print_speed(image, edition, t, k);
             print_intervals(image, edition, t, k);
+            print_closed(image, edition, t, k);
             newline();
         }
         RevolutionAnswer::Refused(r) => {

@@ -1,8 +1,9 @@
 -- A track number is its cylinder and its head. The flux of a revolution lies in the image, so that the part handed out is as long as its
--- count says, even and within the limit: no reading of it is refused with 17. What refuses the revolution has a number up to 14.
-use Prim.Native.Nat.{ℕ, _*_, _%_, _≤_}
+-- count says, even and within the limit: no reading of it is refused with 17. What refuses the revolution has a number up to 14. Its closing
+-- words are read as its intervals are.
+use Prim.Native.Nat.{ℕ, _*_, _%_, _<_, _≤_, min}
 use mathlib.Core.Path.{_≡_, refl, sym, ap, _∙_}
-use mathlib.Core.Logic.{_≢_}
+use mathlib.Core.Logic.{_↔_, _⊎_, ⊎-elim, _≢_}
 use mathlib.Core.List.{List, [], _∷_}
 use mathlib.Core.Bool.{Bool, true, false, cond}
 use native.Mathlib.Omega.{arith}
@@ -12,9 +13,10 @@ use borrow.Author.Tests.{eqb-true, ne-eqb, le-ltb}
 use Rattle.refusals.specs.declared.Refusal.{Refusal}
 use Rattle.refusals.specs.Refusals.{none, passes}
 use Rattle.refusals.proofs.Finding.{holds-if, holds-from}
+use Rattle.flux_theorems.proofs.Closing.{two-lists}
 use Rattle.flux.specs.Coding.{wordsOf, badFluxSize, fluxLimit}
-use Rattle.flux.specs.Reading.{intervals, openTime}
-use Rattle.flux.specs.Answers.{placesRefused, wordsRefused, Filling, refuses, fills, inPlaces, reading}
+use Rattle.flux.specs.Reading.{intervals, openTime, closingNumbers}
+use Rattle.flux.specs.Answers.{placesRefused, wordsRefused, Filling, refuses, fills, answerOf, inPlaces, reading, closingReading}
 use Rattle.copies.proofs.Parts.{part-length}
 use Rattle.scp_fields.specs.declared.Edition.{Edition}
 use Rattle.scp_fields.specs.Header.{trackEntry}
@@ -29,9 +31,9 @@ use Rattle.scp_lookup.specs.Lookups.{foundRevolution, fluxOf, partOf}
 use Rattle.scp_lookup.specs.declared.RevolutionAnswer.{RevolutionAnswer}
 use Rattle.scp_lookup.specs.declared.RevolutionAnswer.the-variants as revolution-answer
 use Rattle.scp_lookup.proofs.FoundLaws.{FoundData, revolution-there, revolution-found, found-data, found-refused, flux-within}
-use Rattle.scp.specs.Answers.{refused, numbers, unless, revolutionValues, revolutionAnswer, fluxPart, intervalsOf}
+use Rattle.scp.specs.Answers.{refused, numbers, unless, revolutionValues, revolutionAnswer, fluxPart, readFrom}
 use Rattle.scp_theorems.proofs.Numbers.{open-number, asked-number}
-use Rattle.scp_theorems.specs.Theorems.{TrackNumber, FluxIsCounted, NeverWords}
+use Rattle.scp_theorems.specs.Theorems.{TrackNumber, FluxIsCounted, NeverWords, RevolutionTwoLists}
 
 pub track-number : (t : ℕ) → TrackNumber t
 track-number t = record { whole = omega arith; side = omega arith }
@@ -111,17 +113,21 @@ passed x f p q e = rw q at e
 good-flux : (n : ℕ) → 2 * n ≤ fluxLimit → badFluxSize (2 * n) ≡ false
 good-flux n h = simp (ne-eqb (2 * n % 2) 1 (λ e. omega arith), le-ltb fluxLimit (2 * n) h)
 
+-- the flux of a revolution that is found is not refused by its length
+good-found : (v : Edition) (b : List ℕ) (t k : ℕ) {d : RevolutionData} → FoundData v b t k d → badFluxSize (length (fluxOf b d)) ≡ false
+good-found v b t k {d} h =
+    let size = flux-length v b t k h in
+    let within = flux-within v b t k h in
+    let most = opens v b (h .present .track .opened) .most in
+    ap badFluxSize size ∙ good-flux (d .words) (omega arith)
+
 module _ (v : Edition) (b : List ℕ) (t k places p : ℕ) where
   read-whole : {d : RevolutionData} → FoundData v b t k d → reading (fluxOf b d) places ≢ refuses wordsRefused p
   read-whole {d} h e =
-      let size = flux-length v b t k h in
-      let within = flux-within v b t k h in
-      let most = opens v b (h .present .track .opened) .most in
-      let good : badFluxSize (length (fluxOf b d)) ≡ false = ap badFluxSize size ∙ good-flux (d .words) (omega arith) in
       let times = intervals 0 (wordsOf (fluxOf b d)) in
-      places-only places (length times ∷ openTime 0 (wordsOf (fluxOf b d)) ∷ []) times p (passed _ _ p good e)
+      places-only places (length times ∷ openTime 0 (wordsOf (fluxOf b d)) ∷ []) times p (passed _ _ p (good-found v b t k h) e)
 
-  never : (r : RevolutionAnswer) → r ≡ foundRevolution v b t k → intervalsOf b places r ≢ refuses wordsRefused p
+  never : (r : RevolutionAnswer) → r ≡ foundRevolution v b t k → readFrom reading b places r ≢ refuses wordsRefused p
   never (revolution-answer.Found d) h = read-whole (found-data v b t k h)
   never (revolution-answer.Refused f) h = λ e.
       let most = revolution-most v b t k in
@@ -131,3 +137,37 @@ module _ (v : Edition) (b : List ℕ) (t k places p : ℕ) where
 
 pub never-words : NeverWords
 never-words v b t k places p = never v b t k places p (foundRevolution v b t k) refl
+
+-- ---- its closing words
+
+-- of flux that is read, and of what refuses the revolution
+module _ (v : Edition) (b : List ℕ) (t k : ℕ) (times closings : List ℕ) where
+  -- the record over what was found
+  record Found (r : RevolutionAnswer) : Type 0 where
+    plain : length (closingNumbers 0 (wordsOf (partOf b r))) ≤ length closings
+        → readFrom reading b (min (length times) (length closings)) r ≡ readFrom reading b (length times) r
+    short : (readFrom reading b (min (length times) (length closings)) r ≡ refuses placesRefused 0)
+        ↔ ((length times < length (intervals 0 (wordsOf (partOf b r)))) ⊎ (length closings < length (closingNumbers 0 (wordsOf (partOf b r)))))
+    together : answerOf (readFrom closingReading b (min (length times) (length closings)) r) ≡ answerOf (readFrom reading b (min (length times) (length closings)) r)
+
+  lists-of : (r : RevolutionAnswer) → r ≡ foundRevolution v b t k → Found r
+  unfolding wordsOf intervals closingNumbers
+  lists-of (revolution-answer.Found d) h =
+      let both = two-lists (fluxOf b d) times closings in
+      record { plain = both .plain; short = both .short (good-found v b t k (found-data v b t k h)); together = both .together }
+  lists-of (revolution-answer.Refused f) h =
+      let most = revolution-most v b t k in
+      let number = ap (λ (x : Refusal). x .number) (found-refused v b t k h .refuses) in
+      record {
+        plain = λ _. refl;
+        short = (
+          λ e. let same : f .number ≡ 15 = ap number-of e in absurd (omega arith),
+          ⊎-elim (λ l. absurd (omega arith)) (λ l. absurd (omega arith)),
+        );
+        together = refl;
+      }
+
+pub revolution-two-lists : (v : Edition) (b : List ℕ) (t k : ℕ) (times closings : List ℕ) → RevolutionTwoLists v b t k times closings
+revolution-two-lists v b t k times closings =
+    let all = lists-of v b t k times closings (foundRevolution v b t k) refl in
+    record { plain = all .plain; short = all .short; together = all .together }

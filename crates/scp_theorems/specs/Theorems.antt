@@ -1,7 +1,7 @@
 -- What the definitions of editions, validating, asking and speeds are proved to mean. The proofs stand in proofs/.
 use Prim.Native.Nat.{ℕ, _+_, _*_, _<_, _≤_}
 use mathlib.Core.Path.{_≡_}
-use mathlib.Core.Logic.{_↔_, _≢_}
+use mathlib.Core.Logic.{_↔_, _⊎_, _≢_}
 use mathlib.Core.List.{List, [], _∷_}
 use mathlib.Core.Bool.{true, false}
 use lib.ListN.{length}
@@ -11,7 +11,9 @@ use lib.Ieee.Exact.{HasValue}
 use Rattle.octets.specs.Numbers.{Octets}
 use Rattle.refusals.specs.declared.Refusal.{Refusal}
 use Rattle.refusals.specs.Refusals.{none}
-use Rattle.flux.specs.Answers.{wordsRefused, refuses}
+use Rattle.flux.specs.Coding.{wordsOf}
+use Rattle.flux.specs.Reading.{intervals, closingNumbers}
+use Rattle.flux.specs.Answers.{placesRefused, wordsRefused, refuses, answerOf}
 use Rattle.scp_fields.specs.declared.Edition.{Edition}
 use Rattle.scp_fields.specs.declared.Edition.the-variants.{V1_4, V1_6}
 use Rattle.scp_fields.specs.Editions.{slots, lastTrack, tableEnd}
@@ -25,7 +27,7 @@ use Rattle.scp_speed.specs.declared.Speed.the-variants.{Rpm}
 use Rattle.scp_speed.specs.declared.SpeedRange.the-variants as range
 use Rattle.scp.specs.Validating.{validateFault}
 use Rattle.scp.specs.Answers as answers
-use Rattle.scp.specs.Answers.{numbers, footerAnswer, revolutionAnswer, fluxPart, revolutionReading}
+use Rattle.scp.specs.Answers.{numbers, footerAnswer, revolutionAnswer, fluxPart, revolutionReading, revolutionClosedTimes, revolutionClosedNumbers}
 
 -- ---- editions
 
@@ -81,6 +83,15 @@ FluxIsCounted =
 -- The intervals of a revolution are never refused with 17, at no position and however many places there are (RO-11).
 abbrev pub NeverWords : Type 0
 NeverWords = (v : Edition) (b : List ℕ) (t k places position : ℕ) → revolutionReading v b t k places ≢ refuses wordsRefused position
+
+-- The intervals of revolution k of track t with their closing words, into these two lists (T-15): where the second is long enough, as without it;
+-- refused with 15 exactly if either is too short, which none is for a refused revolution, whose part is empty; both are filled, or both are left.
+pub record RevolutionTwoLists (v : Edition) (b : List ℕ) (t k : ℕ) (times closings : List ℕ) : Type 0 where
+  pub plain : length (closingNumbers 0 (wordsOf (fluxPart v b t k))) ≤ length closings
+      → revolutionClosedTimes v b t k times closings ≡ revolutionReading v b t k (length times)
+  pub short : (revolutionClosedTimes v b t k times closings ≡ refuses placesRefused 0)
+      ↔ ((length times < length (intervals 0 (wordsOf (fluxPart v b t k)))) ⊎ (length closings < length (closingNumbers 0 (wordsOf (fluxPart v b t k)))))
+  pub together : answerOf (revolutionClosedNumbers v b t k times closings) ≡ answerOf (revolutionClosedTimes v b t k times closings)
 
 -- ---- the longest and the shortest duration of a track
 

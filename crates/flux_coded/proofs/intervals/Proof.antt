@@ -1,7 +1,6 @@
 -- The intervals are read into the places lent, which is as good as into all: their values come to `out`, or 15 is answered.
 use mathlib.Core.Path.{sym, ap, _∙_}
 use lib.Seq.{length-take-le}
-use Rattle.flux.specs.Answers.{ofFilled}
 use Rattle.boundary.specs.Boundary.{codeOf, outAfter}
 use Rattle.scp_boundary.proofs.LentPlaces.{reading-values, reading-after}
 use borrow.Author.Needs.{needs}
@@ -20,20 +19,8 @@ slice-aggregate-intervals c = sym (length-take-le _ _ (c .before .lent .ensures 
 intervals-requires : tie.Need-intervals-requires
 intervals-requires c κs = search needs
 
-enum-known-found : tie.Need-enum-known-found
-enum-known-found c = search needs
-
-slice-aggregate-give : tie.Need-slice-aggregate-give
-slice-aggregate-give c = search needs
-
-give-requires : tie.Need-give-requires
-give-requires c κs = search needs
-
-enum-known-found-2 : tie.Need-enum-known-found-2
-enum-known-found-2 c = search needs
-
-code-requires : tie.Need-code-requires
-code-requires c κs = search needs
+give-filled-requires : tie.Need-give-filled-requires
+give-filled-requires c κs = search needs
 
 same-length : tie.Need-same-length
 same-length c = search needs
@@ -44,36 +31,16 @@ same-length-2 c = search needs
 returns : tie.Need-returns
 returns c =
     let at-give = c .before .before in
-    let at-told = at-give .before .before .before .before in
-    let at-call = at-told .before .before .before .before in
+    let at-call = at-give .before .before .before .before in
     let at-lent = at-call .before .before in
     let a = at-lent .before .before .before .before .args in
     let part = at-lent .lent in
-    let found = ap ofFilled (sym (at-told .found .given .1)) ∙ at-call .intervals .ensures .0 in
-    let same = reading-values (a .flux .now) (a .times .now) _ _ (part .ensures .0) (part .ensures .1) found in (
-      at-give .give .ensures .0 ∙ ap codeOf same,
+    let said = at-call .intervals .ensures in
+    let same = reading-values (a .flux .now) (a .times .now) _ _ (part .ensures .0) (part .ensures .1) (said .0) in (
+      at-give .give-filled .ensures .0 ∙ ap codeOf same,
       (
-        reading-after (a .flux .now) (a .times .now) _ _ (part .ensures .0) (part .ensures .1) (at-call .intervals .ensures .1),
-        at-give .give .ensures .1 ∙ ap (outAfter (a .out .now)) same,
-      ),
-    )
-
-same-length-3 : tie.Need-same-length-3
-same-length-3 c = search needs
-
-returns-2 : tie.Need-returns-2
-returns-2 c =
-    let at-told = c .before .before in
-    let at-call = at-told .before .before .before .before in
-    let at-lent = at-call .before .before in
-    let a = at-lent .before .before .before .before .args in
-    let part = at-lent .lent in
-    let found = ap ofFilled (sym (at-told .found2 .given .1)) ∙ at-call .intervals .ensures .0 in
-    let same = reading-values (a .flux .now) (a .times .now) _ _ (part .ensures .0) (part .ensures .1) found in (
-      c .code .ensures ∙ ap codeOf same,
-      (
-        reading-after (a .flux .now) (a .times .now) _ _ (part .ensures .0) (part .ensures .1) (at-call .intervals .ensures .1),
-        ap (outAfter (a .out .now)) same,
+        reading-after (a .flux .now) (a .times .now) _ _ (part .ensures .0) (part .ensures .1) (said .1),
+        at-give .give-filled .ensures .1 ∙ ap (outAfter (a .out .now)) same,
       ),
     )
 
@@ -85,13 +52,7 @@ intervals-spec =
     slice-relend-prefix-intervals
     slice-aggregate-intervals
     intervals-requires
-    enum-known-found
-    slice-aggregate-give
-    give-requires
-    enum-known-found-2
-    code-requires
+    give-filled-requires
     same-length
     same-length-2
-    returns
-    same-length-3
-    returns-2)
+    returns)

@@ -16,6 +16,12 @@ loop-holds c = search needs
 read-requires : tie.Need-read-requires Inv-loop μ-loop
 read-requires c κs = search needs
 
+closed-requires : tie.Need-closed-requires Inv-loop μ-loop
+closed-requires c κs = search needs
+
+closed-requires-2 : tie.Need-closed-requires-2 Inv-loop μ-loop
+closed-requires-2 c κs = search needs
+
 step-requires : tie.Need-step-requires Inv-loop μ-loop
 step-requires c κs = search needs
 
@@ -42,6 +48,8 @@ short-spec =
     μ-loop
     loop-holds
     read-requires
+    closed-requires
+    closed-requires-2
     step-requires
     add-n
     loop-less

@@ -1,12 +1,9 @@
 -- What is found is read from its part of the image; what is refused leaves the times.
 use mathlib.Core.Path.{sym, ap, _∙_}
-use Prim.Native.Nat.{ℕ}
-use mathlib.Core.List.{List}
 use lib.ListN.{length}
 use borrow.Author.Needs.{needs}
-use Rattle.scp_lookup.specs.declared.RevolutionAnswer.{RevolutionAnswer}
 use Rattle.flux.specs.Answers.{answerOf, bufferAfter, reading}
-use Rattle.scp.specs.Answers.{intervalsOf}
+use Rattle.scp.proofs.Answering.{read-found, read-refused}
 use Rattle.scp.proofs.revolution_intervals.Statement.{statement}
 use Rattle.scp.proofs.revolution_intervals.Tie as tie
 
@@ -35,27 +32,20 @@ returns c =
     let at-found = at-part .before .before in
     let at-find = at-found .before .before in
     let found = sym (at-found .found .given .1) ∙ at-find .find-revolution .ensures in
-    let start = at-find .before .before .before in
-    let b = start .args .image .now in
-    let old = start .args .times .now in
-    let flux = at-part .flux-of .ensures .0 in (
-      at-intervals .intervals .ensures .0 ∙ ap (λ (s : List ℕ). answerOf (reading s (length old))) flux
-          ∙ ap (λ (r : RevolutionAnswer). answerOf (intervalsOf b (length old) r)) found,
-      at-intervals .intervals .ensures .1 ∙ ap (λ (s : List ℕ). bufferAfter old (reading s (length old))) flux
-          ∙ ap (λ (r : RevolutionAnswer). bufferAfter old (intervalsOf b (length old) r)) found,
-    )
+    let a = at-find .before .before .before .args in
+    let old = a .times .now in
+    let read = read-found reading (a .image .now) (length old) (at-part .flux-of .ensures .0) found in
+    (at-intervals .intervals .ensures .0 ∙ ap answerOf read, at-intervals .intervals .ensures .1 ∙ ap (bufferAfter old) read)
 
 returns-2 : tie.Need-returns-2
 returns-2 c =
     let at-found = c .before in
     let at-find = at-found .before .before in
     let found = sym (at-found .found2 .given .1) ∙ at-find .find-revolution .ensures in
-    let start = at-find .before .before .before in
-    let b = start .args .image .now in
-    let old = start .args .times .now in (
-      ap (λ (r : RevolutionAnswer). answerOf (intervalsOf b (length old) r)) found,
-      ap (λ (r : RevolutionAnswer). bufferAfter old (intervalsOf b (length old) r)) found,
-    )
+    let a = at-find .before .before .before .args in
+    let old = a .times .now in
+    let read = read-refused reading (a .image .now) (length old) found in
+    (ap answerOf read, ap (bufferAfter old) read)
 
 pub revolution-intervals-spec : {M : Type 1} → statement M
 revolution-intervals-spec =

@@ -39,14 +39,14 @@ loop-holds c =
 word-at-requires : tie.Need-word-at-requires Inv-loop μ-loop
 word-at-requires c κs = search needs
 
-add-i : tie.Need-add-i Inv-loop μ-loop
-add-i c = search needs
-
 cast-interval : tie.Need-cast-interval Inv-loop μ-loop
 cast-interval c = search needs
 
 add-interval : tie.Need-add-interval Inv-loop μ-loop
 add-interval c = search needs
+
+add-next : tie.Need-add-next Inv-loop μ-loop
+add-next c = search needs
 
 returns-2 : tie.Need-returns-2 Inv-loop μ-loop
 returns-2 c =
@@ -54,6 +54,9 @@ returns-2 c =
     let at-loop = at-call .before .before in
     simp (sym (at-loop .before .before .bad-flux-size .ensures) ∙ at-loop .before .if1 .left)
     (sym (step-close _ _ _ (omega arith) (at-call .word-at .ensures .0) (c .if2 .taken) _ _) ∙ at-loop .loop .inv .2)
+
+add-i : tie.Need-add-i Inv-loop μ-loop
+add-i c = search needs
 
 add-ticks : tie.Need-add-ticks Inv-loop μ-loop
 add-ticks c = search needs
@@ -84,10 +87,11 @@ step-spec =
     returns
     loop-holds
     word-at-requires
-    add-i
     cast-interval
     add-interval
+    add-next
     returns-2
+    add-i
     add-ticks
     loop-less
     loop-again
