@@ -63,5 +63,7 @@ pub struct Revolution {
 pub struct Step {
     pub interval: Option<u64>,
     pub open: u64,
+    /// the number of the word that closed the interval, from 0 within the flux.
+    pub closing: Option<u64>,
     pub next: u64,
 }

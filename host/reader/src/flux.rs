@@ -1,5 +1,7 @@
 //! Intervals from flux words, and flux words from times.
 
+use std::ops::Range;
+
 use crate::answers::{refuse, refuse_at, Refusal, Step};
 use crate::image::{array, GREATEST};
 
@@ -20,6 +22,7 @@ fn word_at(flux: &[u8], word: u64) -> Option<u16> {
 }
 
 /// The rules, Flux and time: from a word number on, to the next closing word, or the open time.
+/// the closing word stands as many words further on as there are zero words before it.
 pub fn step(flux: &[u8], word: u64) -> Result<Step, Refusal> {
     check(flux)?;
     let mut zeros = 0;
@@ -27,11 +30,12 @@ pub fn step(flux: &[u8], word: u64) -> Result<Step, Refusal> {
     while let Some(found) = word_at(flux, at) {
         at += 1;
         if found != 0 {
-            return Ok(Step { interval: Some(ZERO_WORD * zeros + u64::from(found)), open: 0, next: at });
+            let closing = Some(word + zeros);
+            return Ok(Step { interval: Some(ZERO_WORD * zeros + u64::from(found)), open: 0, closing, next: at });
         }
         zeros += 1;
     }
-    Ok(Step { interval: None, open: ZERO_WORD * zeros, next: word })
+    Ok(Step { interval: None, open: ZERO_WORD * zeros, closing: None, next: word })
 }
 
 /// The rules, Flux and time: all intervals and the open time; 17, then 15 if they do not fit.
@@ -52,6 +56,42 @@ pub fn intervals(flux: &[u8], places: usize) -> Result<(Vec<u64>, u64), Refusal>
         return Err(refuse(15));
     }
     Ok((found, pending))
+}
+
+/// The rules, Q-3: all intervals, the words that closed them, and the open time; 17, then 15 if one list or the other is too short.
+/// The closing words are found first; an interval is then the sum over the words behind the closing word before it, up to its own.
+pub fn closed_intervals(flux: &[u8], places: usize, closing_places: usize) -> Result<(Vec<u64>, Vec<u64>, u64), Refusal> {
+    check(flux)?;
+    let closings = closing_words(flux);
+    if closings.len() > places || closings.len() > closing_places {
+        return Err(refuse(15));
+    }
+    let mut sums = Vec::new();
+    let mut start = 0;
+    for closing in &closings {
+        let end = closing + 1;
+        sums.push(ticks(flux, start..end));
+        start = end;
+    }
+    let open = ticks(flux, start..word_count(flux));
+    Ok((sums, closings, open))
+}
+
+/// How many words there are.
+fn word_count(flux: &[u8]) -> u64 {
+    flux.len() as u64 / 2
+}
+
+/// The rules, Flux and time and Q-3: the numbers of all closing words, those that are not zero, from 0 within the flux.
+fn closing_words(flux: &[u8]) -> Vec<u64> {
+    let numbers = 0..word_count(flux);
+    numbers.filter(|&number| word_at(flux, number) != Some(0)).collect()
+}
+
+/// The rules, Flux and time: the sum over the words of these numbers, 65,536 for a zero and w for any other.
+fn ticks(flux: &[u8], numbers: Range<u64>) -> u64 {
+    let words = numbers.filter_map(|number| word_at(flux, number));
+    words.map(|word| if word == 0 { ZERO_WORD } else { u64::from(word) }).sum()
 }
 
 /// The rules, Flux and time: the words of the times, as bytes; 16, then 15 if they do not fit.

@@ -2,8 +2,8 @@
 //!
 //! An image is first parsed into owned structures; every question is then answered from these. A direct question parses the
 //! header and one track alone.
-//! "The rules" in the comments are the paper of exact rules for this format, with three requests: Q-1, one track without the whole
-//! walk, Q-2, 1 to 255 revolutions, and Q-6, images of revision 1.4 beside those of 1.6.
+//! "The rules" in the comments are the paper of exact rules for this format, with four requests: Q-1, one track without the whole
+//! walk, Q-2, 1 to 255 revolutions, Q-3, the word that closed an interval, and Q-6, images of revision 1.4 beside those of 1.6.
 
 #![forbid(unsafe_code)]
 
@@ -18,7 +18,7 @@ mod rewrite;
 
 pub use answers::{Footer, Header, Refusal, Revolution, Step, Track};
 pub use edition::Edition;
-pub use flux::{intervals, step, words};
+pub use flux::{closed_intervals, intervals, step, words};
 pub use questions::{flux, footer, header, revolution, speed, track, track_speed, validate};
 pub use replay::replay;
 pub use rewrite::rewrite;

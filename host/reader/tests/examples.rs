@@ -97,6 +97,17 @@ fn image_a_is_sound_and_lists_as_in_the_rules() {
     let words = flux(&image, V1_6, 0, 0).unwrap();
     assert_eq!(words, [0x00, 0xA0, 0x00, 0x00, 0x00, 0x01, 0x00, 0xF0]);
     assert_eq!(intervals(&words, 3), Ok((vec![160, 65_537, 240], 0)));
+    assert_eq!(closed_intervals(&words, 3, 3), Ok((vec![160, 65_537, 240], vec![0, 2, 3], 0)));
+}
+
+#[test]
+fn closing_words_are_counted_within_their_revolution() {
+    let image = two_tracks();
+    let closed = |track, revolution| closed_intervals(&flux(&image, V1_6, track, revolution).unwrap(), 2, 2).unwrap();
+    assert_eq!(closed(0, 0), (vec![1, 2], vec![0, 1], 0));
+    assert_eq!(closed(0, 1), (vec![3, 4], vec![0, 1], 0));
+    assert_eq!(closed(3, 0), (vec![5, 6], vec![0, 1], 0));
+    assert_eq!(closed(3, 1), (vec![7], vec![0], 65_536));
 }
 
 #[test]
@@ -112,19 +123,19 @@ fn intervals_of_the_starred_examples() {
 
 #[test]
 fn steps_hand_the_reader_on() {
-    let step_of = |interval, open, next| Ok(Step { interval, open, next });
+    let step_of = |interval, open, closing, next| Ok(Step { interval, open, closing, next });
     let words = [0x00, 0xA0, 0x00, 0x00, 0x00, 0x01, 0x00, 0x00];
-    assert_eq!(step(&words, 0), step_of(Some(160), 0, 1));
-    assert_eq!(step(&words, 1), step_of(Some(65_537), 0, 3));
-    assert_eq!(step(&words, 2), step_of(Some(1), 0, 3));
-    assert_eq!(step(&words, 3), step_of(None, 65_536, 3));
-    assert_eq!(step(&words, 4), step_of(None, 0, 4));
-    assert_eq!(step(&words, 5), step_of(None, 0, 5));
+    assert_eq!(step(&words, 0), step_of(Some(160), 0, Some(0), 1));
+    assert_eq!(step(&words, 1), step_of(Some(65_537), 0, Some(2), 3));
+    assert_eq!(step(&words, 2), step_of(Some(1), 0, Some(2), 3));
+    assert_eq!(step(&words, 3), step_of(None, 65_536, None, 3));
+    assert_eq!(step(&words, 4), step_of(None, 0, None, 4));
+    assert_eq!(step(&words, 5), step_of(None, 0, None, 5));
     for far in [1 << 31, 1 << 62, 1 << 63, (1 << 63) + 1, u64::MAX] {
-        assert_eq!(step(&words, far), step_of(None, 0, far));
+        assert_eq!(step(&words, far), step_of(None, 0, None, far));
     }
-    assert_eq!(step(&[], 0), step_of(None, 0, 0));
-    assert_eq!(step(&[0; 6], 1), step_of(None, 131_072, 1));
+    assert_eq!(step(&[], 0), step_of(None, 0, None, 0));
+    assert_eq!(step(&[0; 6], 1), step_of(None, 131_072, None, 1));
 }
 
 #[test]
