@@ -125,10 +125,12 @@ pub struct TrackSpeeds {
 /// A step over flux words.
 #[derive(Clone, Copy, Debug, PartialEq, Eq)]
 pub enum Step {
-    /// An interval in ticks, and the word to go on from.
+    /// An interval in ticks, the word that closes it, and the word to go on from.
     Interval {
         /// Its length.
         ticks: u64,
+        /// The number of its closing word, counted from 0 in the flux.
+        closing: u64,
         /// The number of the word after its closing word.
         next: u64,
     },

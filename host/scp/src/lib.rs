@@ -213,16 +213,17 @@ pub fn track_speed(image: &[u8], edition: Edition, track: u32) -> Result<Option<
 /// use scp::Step;
 ///
 /// let flux = [0x00, 0x00, 0x00, 0x01, 0x00, 0x00];
-/// assert_eq!(scp::step(&flux, 0), Ok(Step::Interval { ticks: 65_537, next: 2 }));
+/// assert_eq!(scp::step(&flux, 0), Ok(Step::Interval { ticks: 65_537, closing: 1, next: 2 }));
 /// assert_eq!(scp::step(&flux, 2), Ok(Step::Open { ticks: 65_536 }));
 /// assert_eq!(scp::step(&flux, 3), Ok(Step::Open { ticks: 0 }));
 /// ```
+#[inline]
 pub fn step(flux: &[u8], word: u64) -> Result<Step, Refusal> {
-    let mut out = [0; 3];
+    let mut out = [0; 4];
     Refusal::of_code(raw::step(flux, word, &mut out))?;
     Ok(match out {
-        [0, ticks, _] => Step::Open { ticks },
-        [ticks, _, next] => Step::Interval { ticks, next },
+        [0, ticks, ..] => Step::Open { ticks },
+        [ticks, _, next, closing] => Step::Interval { ticks, closing, next },
     })
 }
 
@@ -245,6 +246,38 @@ pub fn all_intervals(flux: &[u8]) -> Result<(Vec<u64>, u64), Refusal> {
     let (count, open) = intervals(flux, &mut times)?;
     times.truncate(count);
     Ok((times, open))
+}
+
+/// All intervals of the flux at the start of `times`, and at the start of `closings` the number of the word that closes each, counted from 0
+/// in the flux; gives how many they are, and the open time. Where either list is too short, both are left as they were.
+///
+/// ```
+/// let (mut times, mut closings) = ([9; 3], [9; 3]);
+/// let flux = [0x00, 0xA0, 0x00, 0x00, 0x00, 0x01];
+/// assert_eq!(scp::closed_intervals(&flux, &mut times, &mut closings), Ok((2, 0)));
+/// assert_eq!((times, closings), ([160, 65_537, 9], [0, 2, 9]));
+/// let refusal = scp::closed_intervals(&flux, &mut times, &mut closings[..1]).unwrap_err();
+/// assert_eq!(refusal.reason, scp::Reason::Places);
+/// ```
+pub fn closed_intervals(flux: &[u8], times: &mut [u64], closings: &mut [u64]) -> Result<(usize, u64), Refusal> {
+    let mut out = [0; 2];
+    Refusal::of_code(raw::closed_intervals(flux, times, closings, &mut out))?;
+    Ok((out[0] as usize, out[1]))
+}
+
+/// All intervals of the flux, the number of the word that closes each, and the open time.
+///
+/// ```
+/// let (intervals, closings, open) = scp::all_closed_intervals(&[0x00, 0x00, 0x00, 0x01, 0x00, 0x00])?;
+/// assert_eq!((intervals, closings, open), (vec![65_537], vec![1], 65_536));
+/// # Ok::<(), scp::Refusal>(())
+/// ```
+pub fn all_closed_intervals(flux: &[u8]) -> Result<(Vec<u64>, Vec<u64>, u64), Refusal> {
+    let (mut times, mut closings) = (vec![0; flux.len() / 2], vec![0; flux.len() / 2]);
+    let (count, open) = closed_intervals(flux, &mut times, &mut closings)?;
+    times.truncate(count);
+    closings.truncate(count);
+    Ok((times, closings, open))
 }
 
 /// The words of the times, as bytes at the start of `words`; gives how many bytes they are.

@@ -1,4 +1,4 @@
-//! The sixteen functions of the archive, as `include/scp.h` declares them: each returns 0, or a refusal's number + 256 x its position.
+//! The seventeen functions of the archive, as `include/scp.h` declares them: each returns 0, or a refusal's number + 256 x its position.
 //! An edition is a number: 14 is revision 1.4, every other one 1.6.
 //!
 //! This is the only module with `unsafe` code. Its functions are safe, since a slice's pointer and length are what the archive wants.
@@ -42,6 +42,16 @@ mod archive {
         ) -> u64;
         pub fn scp_step(flux: *const u8, size: usize, word: u64, out: *mut u64, places: usize) -> u64;
         pub fn scp_intervals(flux: *const u8, size: usize, times: *mut u64, count: usize, out: *mut u64, places: usize) -> u64;
+        pub fn scp_closed_intervals(
+            flux: *const u8,
+            size: usize,
+            times: *mut u64,
+            count: usize,
+            closings: *mut u64,
+            closing_count: usize,
+            out: *mut u64,
+            places: usize,
+        ) -> u64;
         pub fn scp_words(times: *const u64, count: usize, words: *mut u8, size: usize, out: *mut u64, places: usize) -> u64;
         pub fn scp_rewrite(
             image: *mut u8,
@@ -132,7 +142,7 @@ pub fn direct_flux(image: &[u8], edition: u32, track: u32, revolution: u32, out:
     unsafe { archive::scp_direct_flux(image.as_ptr(), image.len(), edition, track, revolution, out.as_mut_ptr(), out.len()) }
 }
 
-/// Interval (0: none), open ticks, next word number: 3 numbers.
+/// Interval (0: none), open ticks, next word, closing word (0 where there is no interval): 4 numbers.
 pub fn step(flux: &[u8], word: u64, out: &mut [u64]) -> u64 {
     // SAFETY: as in `header`.
     unsafe { archive::scp_step(flux.as_ptr(), flux.len(), word, out.as_mut_ptr(), out.len()) }
@@ -142,6 +152,23 @@ pub fn step(flux: &[u8], word: u64, out: &mut [u64]) -> u64 {
 pub fn intervals(flux: &[u8], times: &mut [u64], out: &mut [u64]) -> u64 {
     // SAFETY: as in `header`.
     unsafe { archive::scp_intervals(flux.as_ptr(), flux.len(), times.as_mut_ptr(), times.len(), out.as_mut_ptr(), out.len()) }
+}
+
+/// The intervals to `times`, the numbers of the words that close them to `closings`; their count and the open ticks to `out`.
+pub fn closed_intervals(flux: &[u8], times: &mut [u64], closings: &mut [u64], out: &mut [u64]) -> u64 {
+    // SAFETY: as in `header`.
+    unsafe {
+        archive::scp_closed_intervals(
+            flux.as_ptr(),
+            flux.len(),
+            times.as_mut_ptr(),
+            times.len(),
+            closings.as_mut_ptr(),
+            closings.len(),
+            out.as_mut_ptr(),
+            out.len(),
+        )
+    }
 }
 
 /// The bytes of the times to `words`; their number to `out`.

@@ -4,7 +4,7 @@ use std::io::Write;
 
 use crate::arguments::{Arguments, Command};
 use crate::failure::{Failure, Status};
-use crate::flux::count_intervals_of;
+use crate::flux::{count_intervals_of, Counts};
 use crate::image::Image;
 
 /// The command.
@@ -34,7 +34,7 @@ fn run(arguments: &Arguments, out: &mut dyn Write) -> Result<(), Failure> {
 fn say_revolution(image: &Image, place: (u32, u32), out: &mut dyn Write) -> Result<(), Failure> {
     let (track, revolution) = place;
     let found = image.ask_of(place, scp::revolution)?;
-    let (intervals, open) = count_intervals_of(image, place)?;
-    let (ticks, words) = (found.duration, found.words);
-    Ok(writeln!(out, "track {track} turn {revolution} ticks {ticks} words {words} intervals {intervals} open {open}")?)
+    let Counts { intervals, open, last } = count_intervals_of(image, place)?;
+    let (ticks, words, last) = (found.duration, found.words, last.map_or("-".to_string(), |word| word.to_string()));
+    Ok(writeln!(out, "track {track} turn {revolution} ticks {ticks} words {words} intervals {intervals} open {open} last {last}")?)
 }

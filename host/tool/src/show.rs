@@ -12,7 +12,7 @@ use crate::checksum::Checksum;
 use crate::dates::utc;
 use crate::failure::{Failure, Status};
 use crate::files::at_least;
-use crate::flux::count_intervals_of;
+use crate::flux::{count_intervals_of, Counts};
 use crate::image::Image;
 use crate::numbers::{grouped, milliseconds};
 use crate::reasons::Fault;
@@ -194,7 +194,7 @@ fn say_revolutions(image: &Image, tracks: &[u32], out: &mut dyn Write) -> Result
             let place = (track, revolution);
             let found = image.ask_of(place, scp::revolution)?;
             let speed = rpm(image.ask_of(place, scp::speed)?);
-            let (intervals, open) = count_intervals_of(image, place)?;
+            let Counts { intervals, open, .. } = count_intervals_of(image, place)?;
             let (ticks, ms, words) = (found.duration, milliseconds(u64::from(found.duration)), found.words);
             writeln!(out, "{track:>5} {revolution:>3} {ticks:>10} {ms:>13} {words:>10} {intervals:>10} {open:>13} {speed:>14}")?;
         }

@@ -16,10 +16,31 @@ pub enum Unit {
     Microseconds,
 }
 
+/// What stands on each line of a file.
+#[derive(Clone, Copy)]
+enum Form {
+    /// A time, and the word that closed it where that is said.
+    Plain,
+    /// An index and a time.
+    Rows,
+    /// An index, a time and the word that closed it.
+    ClosedRows,
+}
+
+/// A line taken apart.
+struct Parts<'a> {
+    /// What stands before the time: an index, "open" or nothing.
+    first: &'a str,
+    /// The time.
+    time: &'a str,
+    /// The word after it, where there is a place for one.
+    word: Option<&'a str>,
+}
+
 /// The times of a file, with their lines, and the zero words after them.
 struct Times {
     unit: Unit,
-    rows: bool,
+    form: Form,
     ticks: Vec<u64>,
     lines: Vec<usize>,
     open_words: Option<u64>,
@@ -44,15 +65,6 @@ pub fn words_of_times(input: &Input, unit: Unit, most: u32) -> Result<Vec<u8>, F
 }
 
 impl Unit {
-    /// The unit that a line of column names says, if it is one.
-    fn of_columns(line: &str) -> Option<Unit> {
-        match line {
-            "index,ticks" => Some(Unit::Ticks),
-            "index,microseconds" => Some(Unit::Microseconds),
-            _ => None,
-        }
-    }
-
     /// The ticks of a time in this unit.
     fn ticks(self, text: &str) -> Result<u64, String> {
         match self {
@@ -65,14 +77,65 @@ impl Unit {
     }
 }
 
+impl Form {
+    /// The form and the unit that a line of column names says, if it is one.
+    fn of_columns(line: &str) -> Option<(Form, Unit)> {
+        match line {
+            "index,ticks" => Some((Form::Rows, Unit::Ticks)),
+            "index,microseconds" => Some((Form::Rows, Unit::Microseconds)),
+            "index,ticks,word" => Some((Form::ClosedRows, Unit::Ticks)),
+            "index,microseconds,word" => Some((Form::ClosedRows, Unit::Microseconds)),
+            _ => None,
+        }
+    }
+
+    /// Takes a line apart, if it has as many columns as its form.
+    fn parts(self, line: &str) -> Result<Parts<'_>, String> {
+        let no_row = |columns| format!("\"{}\" is no row of {columns}", line.escape_debug());
+        let (first, time, word) = match self {
+            Form::Plain => {
+                let (rest, word) = cut_word(line).map_or((line, None), |(rest, word)| (rest, Some(word)));
+                let (first, time) = rest.split_once(char::is_whitespace).unwrap_or(("", rest));
+                (first, time, word)
+            }
+            Form::Rows => {
+                let (index, time) = line.split_once(',').ok_or_else(|| no_row("an index and a time"))?;
+                (index, time, None)
+            }
+            Form::ClosedRows => {
+                let (index, rest) = line.split_once(',').ok_or_else(|| no_row("an index, a time and a word"))?;
+                match rest.rsplit_once(',') {
+                    Some((time, word)) => (index, time, Some(word)),
+                    // spreadsheets drop empty columns at the end of a row
+                    None if index.trim() == "open" => (index, rest, None),
+                    None => return Err(no_row("an index, a time and a word")),
+                }
+            }
+        };
+        Ok(Parts { first: first.trim(), time: time.trim(), word: word.map(str::trim) })
+    }
+}
+
+impl Parts<'_> {
+    /// Tests the word: a number after an interval, and none after the open time.
+    fn test_word(&self) -> Result<(), String> {
+        match (self.first, self.word) {
+            (_, None) | ("open", Some("")) => Ok(()),
+            ("open", Some(_)) => Err("no word closes the open time".to_string()),
+            (_, Some(word)) if is_number(word) => Ok(()),
+            (_, Some(word)) => Err(format!("\"{}\" is not the number of a word", word.escape_debug())),
+        }
+    }
+}
+
 impl Times {
     /// Reads the lines: a time each, or rows after the line that names their columns; at the end the open time.
     fn parse(input: &Input, unit: Unit) -> Result<Times, Failure> {
-        let mut times = Times { unit, rows: false, ticks: Vec::new(), lines: Vec::new(), open_words: None };
+        let mut times = Times { unit, form: Form::Plain, ticks: Vec::new(), lines: Vec::new(), open_words: None };
         for (index, (number, line)) in input.lines().enumerate() {
             let line = line?;
-            let added = match Unit::of_columns(line) {
-                Some(named) if index == 0 => times.start_rows(named),
+            let added = match Form::of_columns(line) {
+                Some((form, named)) if index == 0 => times.start_rows(form, named),
                 _ => times.add(number, line),
             };
             added.map_err(|message| input.bad_line(number, message))?;
@@ -80,9 +143,9 @@ impl Times {
         Ok(times)
     }
 
-    /// Takes the next lines as rows, if their column has the unit of the file.
-    fn start_rows(&mut self, named: Unit) -> Result<(), String> {
-        self.rows = true;
+    /// Takes the next lines as rows of a form, if their times have the unit of the file.
+    fn start_rows(&mut self, form: Form, named: Unit) -> Result<(), String> {
+        self.form = form;
         match (named, self.unit) {
             (Unit::Ticks, Unit::Microseconds) => Err("these are ticks, but --us is given; leave it out".to_string()),
             (Unit::Microseconds, Unit::Ticks) => Err("these are microseconds; give --us, too".to_string()),
@@ -90,23 +153,20 @@ impl Times {
         }
     }
 
-    /// Adds what a line says; the index of a row is not looked at.
+    /// Adds what a line says; an index and a word are only tested to be numbers.
     fn add(&mut self, number: usize, line: &str) -> Result<(), String> {
         if self.open_words.is_some() {
             return Err("nothing can follow the open time".to_string());
         }
-        let (first, value) = match self.rows {
-            false => line.split_once(char::is_whitespace).unwrap_or(("", line)),
-            true => line.split_once(',').ok_or_else(|| format!("\"{}\" is no row of an index and a time", line.escape_debug()))?,
-        };
-        let ticks = self.unit.ticks(value.trim());
-        match (first.trim(), self.rows) {
+        let parts = self.form.parts(line)?;
+        let ticks = self.unit.ticks(parts.time);
+        match (parts.first, self.form) {
             ("open", _) => self.open_words = Some(zero_words(ticks?)?),
-            ("", false) => self.push(number, ticks?),
-            (index, true) if whole_ticks(index).is_ok() => self.push(number, ticks?),
+            ("", Form::Plain) => self.push(number, ticks?),
+            (index, Form::Rows | Form::ClosedRows) if is_number(index) => self.push(number, ticks?),
             _ => return Err(format!("\"{}\" is not a time", line.escape_debug())),
         }
-        Ok(())
+        parts.test_word()
     }
 
     /// Adds an interval and its line.
@@ -120,6 +180,18 @@ impl Times {
         let closed: u128 = self.ticks.iter().map(|ticks| u128::from(ticks / ZERO_WORD_TICKS) + 1).sum();
         closed + u128::from(self.open_words.unwrap_or(0))
     }
+}
+
+/// A plain line without the word that closed its time, and the number of that word, where it is said.
+fn cut_word(line: &str) -> Option<(&str, &str)> {
+    let (rest, number) = line.rsplit_once(char::is_whitespace)?;
+    let (rest, name) = rest.trim_end().rsplit_once(char::is_whitespace)?;
+    (name == "word").then_some((rest.trim_end(), number))
+}
+
+/// Whether an index or a word is a number.
+fn is_number(text: &str) -> bool {
+    whole_ticks(text).is_ok()
 }
 
 /// The zero words of an open time.

@@ -35,8 +35,8 @@ impl Subject {
         let found = way.revolution(image, place)?;
         let rpm = way.speed(image, place)?;
         let mut intervals = Vec::new();
-        let open = each_interval(image, way.flux(image, place)?, |ticks| {
-            intervals.push(ticks);
+        let open = each_interval(image, way.flux(image, place)?, |interval| {
+            intervals.push(interval.ticks);
             Ok(())
         })?;
         let (name, duration) = (image.input.name.clone(), found.duration);

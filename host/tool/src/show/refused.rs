@@ -62,7 +62,7 @@ fn say_revolutions(layout: Layout, out: &mut dyn Write) -> io::Result<()> {
             let size = 2 * u64::from(words);
             let flux = layout.part(found.offset, size).filter(|_| found.offset + size <= layout.end());
             let read = flux.and_then(|flux| count_intervals(flux).ok());
-            let (intervals, open) = read.map(|(intervals, open)| (intervals.to_string(), open.to_string())).unzip();
+            let (intervals, open) = read.map(|counts| (counts.intervals.to_string(), counts.open.to_string())).unzip();
             let (intervals, open) = (intervals.unwrap_or("-".to_string()), open.unwrap_or("-".to_string()));
             writeln!(out, "{track:>5} {revolution:>3} {ticks:>10} {ms:>13} {words:>10} {intervals:>10} {open:>13}")?;
         }

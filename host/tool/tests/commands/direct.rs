@@ -21,12 +21,14 @@ fn footed_but(changes: &[(usize, &[u8])]) -> Vec<u8> {
 }
 
 /// Each of the forms that a revolution is read or drawn in.
-fn forms(file: &str, place: &str) -> [String; 5] {
+fn forms(file: &str, place: &str) -> [String; 7] {
     [
         format!("read {file} {place}"),
         format!("read --us {file} {place}"),
         format!("read {file} {place} --csv"),
         format!("read {file} --csv {place} --us"),
+        format!("read {file} {place} --closing"),
+        format!("read --closing {file} --us {place} --csv"),
         format!("plot {file} {place} out.svg --force"),
     ]
 }

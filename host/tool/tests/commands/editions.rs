@@ -54,10 +54,11 @@ fn an_old_image_is_read_by_every_command() {
     for option in ["--edition 1.4", "--edition=1.4"] {
         let passes = |line: &str| bench.passes(&format!("{line} {option}"));
         assert_eq!(passes("validate old.scp a.scp --all"), "old.scp: ok\na.scp: ok\n");
-        let listed = "ok 704 tracks 1 turns 1 sum 972\ntrack 0 turn 0 ticks 8000000 words 4 intervals 3 open 0\n";
+        let listed = "ok 704 tracks 1 turns 1 sum 972\ntrack 0 turn 0 ticks 8000000 words 4 intervals 3 open 0 last 3\n";
         assert_eq!(passes("list old.scp"), listed);
         assert_eq!(bench.run_with(&format!("list {option} -"), &scp::example::image_a_1_4()).out, listed);
         assert_eq!(passes("read old.scp 0 0"), "160\n65537\n240\n");
+        assert_eq!(passes("read old.scp 0 0 --closing"), "160 word 0\n65537 word 2\n240 word 3\n");
         assert_eq!(passes("plot old.scp 0 0 out.svg --force"), "3 intervals drawn in out.svg\n");
         let out = passes("patch old.scp out.scp 0 0 --duration keep --words words.bin --force");
         assert!(out.ends_with("words 4 -> 4\nchecksum 972 -> 877\n"), "{out}");
@@ -268,7 +269,7 @@ fn revolutions_and_read_write_are_the_same_by_both() {
     for edition in Edition::ALL {
         bench.put("r.scp", &image_by(edition, 0, &[(165, &revolutions)]));
         let listed = bench.passes(&format!("list r.scp --edition {edition}"));
-        assert!(listed.ends_with("\ntrack 165 turn 254 ticks 7 words 2 intervals 1 open 65536\n"), "{listed}");
+        assert!(listed.ends_with("\ntrack 165 turn 254 ticks 7 words 2 intervals 1 open 65536 last 0\n"), "{listed}");
         assert_eq!(bench.passes(&format!("read r.scp 165 254 --edition {edition}")), "5\nopen 65536\n");
         bench.put("w.scp", &image_by(edition, 0x10, &[(0, &revolutions[..1])]));
         let out = bench.passes(&format!("patch w.scp x.scp 0 0 --duration keep --words word.bin --force --edition {edition}"));

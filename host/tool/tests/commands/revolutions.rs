@@ -50,7 +50,8 @@ fn many_revolutions_are_listed_and_shown() {
                 let row = index * usize::from(count) + usize::from(revolution);
                 let ticks = 8_000_000 + u32::from(revolution);
                 let (ms, rpm) = (f64::from(ticks) / 40_000.0, 2.4e9 / f64::from(ticks));
-                assert_eq!(lines[1 + row], format!("track {track} turn {revolution} ticks {ticks} words 3 intervals 2 open 65536"));
+                let line = format!("track {track} turn {revolution} ticks {ticks} words 3 intervals 2 open 65536 last 1");
+                assert_eq!(lines[1 + row], line);
                 let due = format!("{track} {revolution} {ticks} {ms:.6} 3 2 65536 {rpm:.3}");
                 assert_eq!(tables[1][row].split_whitespace().collect::<Vec<_>>().join(" "), due);
             }
