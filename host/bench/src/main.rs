@@ -4,8 +4,8 @@
 //! median is reported, with the tenth and the ninetieth of a hundred as spread. Times themselves are not reported: machines differ.
 //!
 //! More tables have the library beside itself: how the time for a revolution of an SCP image depends on how many tracks and revolutions
-//! there are, a direct call beside the full one and on fewer tracks, and how the time for a track block of a DSK image depends on how many
-//! tracks and sides.
+//! there are, a direct call beside the full one and on fewer tracks, reading flux at one go without closing words beside with them, and how
+//! the time for a track block of a DSK image depends on how many tracks and sides.
 
 #![forbid(unsafe_code)]
 
@@ -36,6 +36,7 @@ fn main() {
     summing(rounds);
     question(rounds);
     direct(rounds);
+    stepping(rounds);
     reading(rounds);
     writing(rounds);
     rewriting(rounds);
@@ -48,6 +49,8 @@ fn main() {
     direct_beside_full(rounds);
     say_columns("library's direct call, beside 168 tracks of as many revolutions");
     direct_growth(rounds);
+    say_columns("library's call without closing words, beside the one with them");
+    reading_beside_closed(rounds);
     say_columns("library's time for each track block, beside 255 tracks of 2 sides");
     disks::growth(rounds);
 }
@@ -193,37 +196,72 @@ fn added(answer: Result<plain::Revolution, plain::Refused>) -> u64 {
     }
 }
 
-/// Flux of 50,000 words, by the cursor and at one go.
-fn reading(rounds: usize) {
-    let flux = flux_bytes(&flux_words(&mut Random::new(1), 50_000));
+/// Flux of 50,000 words.
+fn flux() -> Vec<u8> {
+    flux_bytes(&flux_words(&mut Random::new(1), 50_000))
+}
+
+/// The cursor over the flux: intervals and closing words, added.
+fn stepping(rounds: usize) {
+    let flux = flux();
     let library = || {
-        let (mut word, mut total, mut out) = (0, 0, [0; 3]);
+        let (mut word, mut total, mut out) = (0, 0, [0; 4]);
         while raw::step(black_box(&flux), word, &mut out) == 0 && out[0] != 0 {
-            total += out[0];
+            total += out[0] + out[3];
             word = out[2];
         }
         total
     };
     let plain = || {
         let (mut word, mut total) = (0, 0);
-        while let Ok((interval @ 1.., _, next)) = plain::step(black_box(&flux), word) {
-            total += interval;
+        while let Ok((interval @ 1.., _, next, closing)) = plain::step(black_box(&flux), word) {
+            total += interval + closing;
             word = next;
         }
         total
     };
     ratio("step the cursor over 50,000 words", rounds, 20, library, plain);
+}
 
+/// The flux at one go, without closing words and with them.
+fn reading(rounds: usize) {
+    let flux = flux();
     let (mut times, mut others) = (vec![0; 50_000], vec![0; 50_000]);
-    let library = || {
-        let mut out = [0; 2];
-        raw::intervals(black_box(&flux), &mut times, &mut out) + out[0] + times[49_000]
-    };
+    let library = || read(black_box(&flux), &mut times);
     let plain = || match plain::intervals(black_box(&flux), &mut others) {
         Ok((filled, _)) => filled as u64 + others[49_000],
         Err(refused) => code::<()>(Err(refused)),
     };
     ratio("read 50,000 words at one go", rounds, 50, library, plain);
+
+    let (mut closings, mut other_closings) = (vec![0; 50_000], vec![0; 50_000]);
+    let library = || read_closed(black_box(&flux), &mut times, &mut closings);
+    let plain = || match plain::closed_intervals(black_box(&flux), &mut others, &mut other_closings) {
+        Ok((filled, _)) => filled as u64 + others[49_000] + other_closings[49_000],
+        Err(refused) => code::<()>(Err(refused)),
+    };
+    ratio("read 50,000 words at one go, with closing words", rounds, 50, library, plain);
+}
+
+/// The plain call beside the one that names closing words.
+fn reading_beside_closed(rounds: usize) {
+    let flux = flux();
+    let (mut times, mut others, mut closings) = (vec![0; 50_000], vec![0; 50_000], vec![0; 50_000]);
+    let first = (50, || read(black_box(&flux), &mut times));
+    let second = (50, || read_closed(black_box(&flux), &mut others, &mut closings));
+    beside("read 50,000 words at one go", rounds, first, second);
+}
+
+/// Reads flux at one go: how many intervals there are, and one of them, added.
+fn read(flux: &[u8], times: &mut [u64]) -> u64 {
+    let mut out = [0; 2];
+    raw::intervals(flux, times, &mut out) + out[0] + times[49_000]
+}
+
+/// The same with closing words: that of the one interval is added, too.
+fn read_closed(flux: &[u8], times: &mut [u64], closings: &mut [u64]) -> u64 {
+    let mut out = [0; 2];
+    raw::closed_intervals(flux, times, closings, &mut out) + out[0] + times[49_000] + closings[49_000]
 }
 
 /// Words from 50,000 times.

@@ -204,34 +204,61 @@ fn check_flux(flux: &[u8]) -> Result<(), Refused> {
     Ok(())
 }
 
-/// The next interval from a word on: interval or 0, open ticks, next word.
+/// That the places hold the intervals: they are counted only where there are fewer places than words.
+#[inline(always)]
+fn check_places(flux: &[u8], places: usize) -> Result<(), Refused> {
+    let closing = |pair: &[u8]| pair[0] != 0 || pair[1] != 0;
+    if places < flux.len() / 2 && flux.chunks_exact(2).filter(|pair| closing(pair)).count() > places {
+        return Err((15, 0));
+    }
+    Ok(())
+}
+
+/// The next interval from a word on: interval or 0, open ticks, next word, closing word or 0.
 #[inline(never)]
-pub fn step(flux: &[u8], word: u64) -> Result<(u64, u64, u64), Refused> {
+pub fn step(flux: &[u8], word: u64) -> Result<(u64, u64, u64, u64), Refused> {
     check_flux(flux)?;
     let mut pending = 0;
     for (at, pair) in flux.chunks_exact(2).enumerate().skip(word as usize) {
         match u16::from_be_bytes([pair[0], pair[1]]) {
             0 => pending += 65_536,
-            closing => return Ok((pending + u64::from(closing), 0, at as u64 + 1)),
+            closing => return Ok((pending + u64::from(closing), 0, at as u64 + 1, at as u64)),
         }
     }
-    Ok((0, pending, word))
+    Ok((0, pending, word, 0))
 }
 
 /// All intervals into the places; how many, and the open ticks.
 #[inline(never)]
 pub fn intervals(flux: &[u8], times: &mut [u64]) -> Result<(usize, u64), Refused> {
     check_flux(flux)?;
-    let closing = |pair: &[u8]| pair[0] != 0 || pair[1] != 0;
-    if times.len() < flux.len() / 2 && flux.chunks_exact(2).filter(|pair| closing(pair)).count() > times.len() {
-        return Err((15, 0));
-    }
+    check_places(flux, times.len())?;
     let (mut filled, mut pending) = (0, 0);
     for pair in flux.chunks_exact(2) {
         match u16::from_be_bytes([pair[0], pair[1]]) {
             0 => pending += 65_536,
             word => {
                 times[filled] = pending + u64::from(word);
+                filled += 1;
+                pending = 0;
+            }
+        }
+    }
+    Ok((filled, pending))
+}
+
+/// All intervals and the numbers of their closing words into the places of both lists; how many, and the open ticks.
+#[inline(never)]
+pub fn closed_intervals(flux: &[u8], times: &mut [u64], closings: &mut [u64]) -> Result<(usize, u64), Refused> {
+    check_flux(flux)?;
+    check_places(flux, times.len().min(closings.len()))?;
+    let (mut filled, mut pending) = (0, 0);
+    for (at, pair) in flux.chunks_exact(2).enumerate() {
+        match u16::from_be_bytes([pair[0], pair[1]]) {
+            0 => pending += 65_536,
+            word => {
+                times[filled] = pending + u64::from(word);
+                closings[filled] = at as u64;
                 filled += 1;
                 pending = 0;
             }

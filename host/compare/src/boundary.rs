@@ -40,18 +40,66 @@ pub fn fill_two<T: Copy + Same + Debug>(
     places: usize,
     call: impl FnOnce(&mut [T], &mut [u64]) -> u64,
 ) -> Result<u32, Difference> {
+    let expected = expected.map(|(values, made)| (values, [made]));
+    fill_lists(expected, ([("the buffer filled", old)], guard), places, |[lent], out| call(lent, out))
+}
+
+/// The same with several buffers for what is made, each with its name.
+pub fn fill_lists<T: Copy + Same + Debug, const N: usize>(
+    expected: Result<(Vec<u64>, [Vec<T>; N]), impl Into<Refusal>>,
+    (old, guard): ([(&str, &[T]); N], T),
+    places: usize,
+    call: impl FnOnce([&mut [T]; N], &mut [u64]) -> u64,
+) -> Result<u32, Difference> {
     let expected = expected.map_err(Into::into);
     let expected = expected.and_then(|(values, made)| within(Ok::<_, Refusal>(values), places).map(|values| (values, made)));
-    let mut lent = Guarded::new(old, guard);
+    let mut lent = old.map(|(_, old)| Guarded::new(old, guard));
     let mut out = Guarded::new(&vec![NUMBER; places], NUMBER);
-    let got = call(lent.lent(), out.lent());
+    let got = call(lent.each_mut().map(Guarded::lent), out.lent());
     let number = same_code(&expected, got)?;
-    let (values, made) = expected.unwrap_or_default();
-    if made.len() > old.len() {
-        let what = "how much is made".to_string();
-        return Err(Difference { what, wanted: made.len().to_string(), library: format!("at most {}", old.len()) });
+    let (values, made) = expected.unwrap_or_else(|_| (Vec::new(), old.map(|_| Vec::new())));
+    for ((lent, (what, old)), made) in lent.iter().zip(old).zip(&made) {
+        same_filled(what, lent, old, made)?;
     }
-    same("the buffer filled", &lent, &over(old, &made))?;
     same("the buffer lent", &out, &after(NUMBER, places, &values))?;
     Ok(number)
+}
+
+/// Whether a buffer of these old elements starts with what is made, for which it has room.
+fn same_filled<T: Copy + Same + Debug>(what: &str, lent: &Guarded<T>, old: &[T], made: &[T]) -> Result<(), Difference> {
+    if made.len() > old.len() {
+        let what = format!("how much is made for {what}");
+        return Err(Difference { what, wanted: made.len().to_string(), library: format!("at most {}", old.len()) });
+    }
+    same(what, lent, &over(old, made))
+}
+
+#[cfg(test)]
+mod tests {
+    use super::*;
+
+    /// Where the library, which puts 1 and 2 to the first list of three places, 5 and 6 to the second and 2 to the values, differs from a
+    /// reader that makes these lists.
+    fn differs(first: &[u64], second: &[u64]) -> Option<String> {
+        let old = [NUMBER; 3];
+        let expected = Ok::<_, Refusal>((vec![2], [first.to_vec(), second.to_vec()]));
+        let call = |[first, second]: [&mut [u64]; 2], out: &mut [u64]| {
+            first[..2].copy_from_slice(&[1, 2]);
+            second[..2].copy_from_slice(&[5, 6]);
+            out[0] = 2;
+            0
+        };
+        fill_lists(expected, ([("the first", &old), ("the second", &old)], NUMBER), 1, call).err().map(|difference| difference.what)
+    }
+
+    #[test]
+    fn each_list_is_compared_by_itself_whatever_its_length() {
+        assert_eq!(differs(&[1, 2], &[5, 6]), None);
+        for list in [&[][..], &[1], &[5], &[2, 1], &[6, 5], &[1, 2, 3], &[5, 6, 7]] {
+            assert_eq!(differs(list, &[5, 6]).as_deref(), Some("the first"));
+            assert_eq!(differs(&[1, 2], list).as_deref(), Some("the second"));
+        }
+        assert_eq!(differs(&[1, 2, 3, 4], &[5, 6]).as_deref(), Some("how much is made for the first"));
+        assert_eq!(differs(&[1, 2], &[5, 6, 7, 8]).as_deref(), Some("how much is made for the second"));
+    }
 }

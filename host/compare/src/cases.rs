@@ -273,24 +273,48 @@ fn other_editions(calls: &[u64]) -> Vec<u64> {
 
 // ---- flux and times
 
-/// Flux of words, and now and then of an odd number of bytes: steps from some words, and all intervals into some places.
+/// Flux of words, and now and then of an odd number of bytes: steps from some words, and all intervals into some places, with their closing
+/// words and without.
 fn flux_case(random: &mut Random) -> Case<Question> {
-    let most = random.pick(&[3, 12, 12, 300]);
-    let words = generate::words(random, most);
+    let words = some_words(random);
     let closing = words.iter().filter(|&&word| word != 0).count();
     let count = words.len() as u64;
     let mut bytes = flux_bytes(&words);
     if random.once_in(10) {
         bytes.push(random.byte());
     }
-    let mut questions: Vec<Question> = (0..count.min(20)).map(|word| Question::Step { word, places: 3 }).collect();
-    for word in [count, count + 1, 1 << 63, u64::MAX, u64::MAX / 2] {
-        questions.push(Question::Step { word, places: places(random, 3) });
+    let mut questions: Vec<Question> = (0..count.min(20)).map(|word| Question::Step { word, places: 4 }).collect();
+    let inside = random.below(words.len() + 1) as u64;
+    for word in [inside, count.saturating_sub(1), count, count + 1, 1 << 63, u64::MAX, u64::MAX / 2] {
+        questions.push(Question::Step { word, places: places(random, 4) });
     }
     for _ in 0..4 {
         questions.push(Question::Intervals { times: places(random, closing), places: places(random, 2) });
     }
+    questions.extend(closed_intervals(closing, random));
     Case { bytes, questions }
+}
+
+/// Words of flux: a few or some hundred, and now and then some more behind so many zeros that their numbers pass 16 bits.
+fn some_words(random: &mut Random) -> Vec<u16> {
+    let most = random.pick(&[3, 12, 12, 300]);
+    let mut words = generate::words(random, most);
+    if random.once_in(400) {
+        words.resize(random.between(65_530, 65_540), 0);
+        words.extend(generate::words(random, 12));
+    }
+    words
+}
+
+/// All intervals with their closing words: enough places or more, either list or both one short, too few places for the values, or any.
+fn closed_intervals(needed: usize, random: &mut Random) -> Vec<Question> {
+    let (short, more) = (needed.saturating_sub(1), needed + 1 + random.below(3));
+    let enough = [(needed, needed), (needed, more), (more, needed), (more, more)];
+    let one_short = [(short, needed), (short, more), (needed, short), (more, short), (short, short)];
+    let mut lent: Vec<_> = enough.iter().chain(&one_short).map(|&(times, closings)| (times, closings, 2 + random.below(2))).collect();
+    lent.extend([(needed, needed, random.below(2)), (short, more, random.below(2))]);
+    lent.push((places(random, needed), places(random, needed), places(random, 2)));
+    lent.into_iter().map(|(times, closings, places)| Question::ClosedIntervals { times, closings, places }).collect()
 }
 
 /// Times at the edges of what words express, into some room.

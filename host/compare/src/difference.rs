@@ -22,7 +22,7 @@ impl From<dsk_reader::Refusal> for Refusal {
     }
 }
 
-/// Where the two differ: what the library is to have, by the reader or by a full call beside a direct one, and what it has.
+/// Where the two differ: what the library is to have, by the reader or by another call of its own, and what it has.
 #[derive(Clone, Debug, PartialEq, Eq)]
 pub struct Difference {
     pub what: String,

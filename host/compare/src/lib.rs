@@ -3,7 +3,7 @@
 //! A case is an input by chance (an image, flux, times, an image with a sequence of calls, or bytes that an image is written over) with the
 //! questions that are put to both.
 //! SCP images are laid out for either edition, and every question about one is put by both. Beside a direct call stands the library's full
-//! one.
+//! one, and beside a call for closing words its plain one and its steps.
 //! Cases are numbered; a seed and a number give the same case again. The modules of DSK images are those with `dsk` in their name.
 
 #![forbid(unsafe_code)]
@@ -11,6 +11,7 @@
 pub mod ask;
 pub mod boundary;
 pub mod cases;
+pub mod closing;
 pub mod count;
 pub mod difference;
 pub mod direct;

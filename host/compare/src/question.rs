@@ -1,7 +1,8 @@
 //! One call, put to the library and to the reader: answers, every element of every lent buffer, and the guards around them.
 
 use crate::ask::Ask;
-use crate::boundary::{fill, fill_two, BYTE, FLOAT, NUMBER};
+use crate::boundary::{fill, fill_lists, fill_two, BYTE, FLOAT, NUMBER};
+use crate::closing::as_other_calls;
 use crate::count::Kind;
 use crate::difference::{same, same_code, Difference};
 use crate::direct::as_full;
@@ -28,13 +29,15 @@ pub enum Asked {
     Rewrite { track: u32, revolution: u32, duration: u32, words: Vec<u8> },
 }
 
-/// A call with its arguments: on an image by the edition that a number names, a sequence of such calls, or one on flux or times.
+/// A call with its arguments: on an image by the edition that a number names, a sequence of such calls, or one on flux or times. Lists that
+/// are filled are named by their sizes.
 #[derive(Clone, Debug, PartialEq, Eq)]
 pub enum Question {
     OnImage { edition: u32, asked: Asked },
     Sequence { calls: Vec<u64>, words: Vec<u8>, places: usize },
     Step { word: u64, places: usize },
     Intervals { times: usize, places: usize },
+    ClosedIntervals { times: usize, closings: usize, places: usize },
     Words { times: Vec<u64>, room: usize, places: usize },
 }
 
@@ -79,6 +82,7 @@ const DIRECT_CALLS: usize = 2;
 const ROWS: usize = 4;
 const REPLAYS: usize = 6;
 const FLUX_AND_TIMES: usize = 7;
+const CLOSING_WORDS: usize = 8;
 
 /// What a direct call never gives: footer, strings and checksum are not looked at, and nothing is written.
 const NEVER_DIRECTLY: &[u32] = &[7, 8, 12, 16, 17, 18];
@@ -97,7 +101,7 @@ impl Ask for Question {
     type Agreed = Agreed;
 
     /// Single calls on images, direct ones apart, and the rows of replays, each by both editions; replays as a whole; calls on flux and
-    /// times.
+    /// times, those for closing words apart.
     const KINDS: &'static [Kind] = &[
         kind("single calls by 1.4 (none is refused with 7, 8 or 16)", "single call by 1.4", &[7, 8, 16]),
         kind("single calls by 1.6 (none is refused with 16)", "single call by 1.6", &[16]),
@@ -107,6 +111,7 @@ impl Ask for Question {
         kind("rows of replays by 1.6 (none is refused with 15 or 16)", "row of a replay by 1.6", &[15, 16]),
         Kind { all: "replays", one: "replay", numbers: &[0, 15], never: &[] },
         Kind { all: "calls on flux and times", one: "call on flux or times", numbers: &[0, 15, 16, 17], never: &[] },
+        Kind { all: "calls for closing words", one: "call for closing words", numbers: &[0, 15, 17], never: &[] },
     ];
 
     fn compare(&self, bytes: &[u8]) -> Result<Agreed, Difference> {
@@ -122,6 +127,7 @@ impl Ask for Question {
                 rows.chain([(REPLAYS, agreed.number)]).collect()
             }
             Question::Step { .. } | Question::Intervals { .. } | Question::Words { .. } => vec![(FLUX_AND_TIMES, agreed.number)],
+            Question::ClosedIntervals { .. } => vec![(CLOSING_WORDS, agreed.number)],
         }
     }
 
@@ -148,6 +154,7 @@ pub fn compare(bytes: &[u8], question: &Question) -> Result<Agreed, Difference> 
         Question::Sequence { calls, words, places } => return sequence::compare(bytes, calls, words, *places),
         Question::Step { word, places } => step(bytes, *word, *places),
         Question::Intervals { times, places } => intervals(bytes, *times, *places),
+        Question::ClosedIntervals { times, closings, places } => closed_intervals(bytes, (*times, *closings), *places),
         Question::Words { times, room, places } => words(times, *room, *places),
     }?;
     Ok(Agreed { number, rows: Vec::new() })
@@ -294,7 +301,7 @@ fn rewrite(bytes: &[u8], edition: u32, (track, revolution): (u32, u32), duration
 /// A step over flux.
 fn step(flux: &[u8], word: u64, places: usize) -> Result<u32, Difference> {
     let lent = Guarded::new(flux, BYTE);
-    let numbers = |step: reader::Step| vec![step.interval.unwrap_or(0), step.open, step.next];
+    let numbers = |step: reader::Step| vec![step.interval.unwrap_or(0), step.open, step.next, step.closing.unwrap_or(0)];
     let expected = reader::step(flux, word).map(numbers);
     let number = fill(expected, places, NUMBER, |out| raw::step(lent.contents(), word, out))?;
     same("the flux", &lent, flux)?;
@@ -306,6 +313,20 @@ fn intervals(flux: &[u8], times: usize, places: usize) -> Result<u32, Difference
     let lent = Guarded::new(flux, BYTE);
     let expected = reader::intervals(flux, times).map(|(found, open)| (vec![found.len() as u64, open], found));
     let number = fill_two(expected, (&vec![NUMBER; times], NUMBER), places, |times, out| raw::intervals(lent.contents(), times, out))?;
+    same("the flux", &lent, flux)?;
+    Ok(number)
+}
+
+/// Bulk reading with closing words; beside it the library's plain call and its steps.
+fn closed_intervals(flux: &[u8], (times, closings): (usize, usize), places: usize) -> Result<u32, Difference> {
+    let lent = Guarded::new(flux, BYTE);
+    let expected = reader::closed_intervals(flux, times, closings);
+    let expected = expected.map(|(found, closed_by, open)| (vec![found.len() as u64, open], [found, closed_by]));
+    let [old_times, old_closings] = [times, closings].map(|size| vec![NUMBER; size]);
+    let old = [("the times", &old_times[..]), ("the closing words", &old_closings)];
+    let call = |[times, closings]: [&mut [u64]; 2], out: &mut [u64]| raw::closed_intervals(lent.contents(), times, closings, out);
+    let number = fill_lists(expected, (old, NUMBER), places, call)?;
+    as_other_calls(lent.contents(), (times, closings), places)?;
     same("the flux", &lent, flux)?;
     Ok(number)
 }
@@ -332,6 +353,9 @@ mod tests {
         let never: Vec<&[u32]> = by_editions.iter().map(|kind| kind.never).collect();
         let direct: &[u32] = &[7, 8, 12, 16, 17, 18];
         assert_eq!(never, [&[7, 8, 16], &[16][..], direct, direct, &[7, 8, 15, 16], &[15, 16]]);
+        let others: Vec<&[u32]> = Question::KINDS[6..].iter().map(|kind| kind.numbers).collect();
+        assert_eq!(others, [&[0, 15], &[0, 15, 16, 17][..], &[0, 15, 17]]);
+        assert!(Question::KINDS[6..].iter().all(|kind| kind.never.is_empty()));
     }
 
     #[test]
@@ -351,6 +375,18 @@ mod tests {
         assert_eq!(sequence.counted(&[], &Agreed { number: 0, rows: vec![1, 2] }), [(4, 1), (5, 2), (6, 0)]);
         let names = Question::KINDS.iter().map(|kind| kind.one).collect::<Vec<_>>();
         assert_eq!(names[..4], ["single call by 1.4", "single call by 1.6", "direct call by 1.4", "direct call by 1.6"]);
-        assert_eq!(names[4..], ["row of a replay by 1.4", "row of a replay by 1.6", "replay", "call on flux or times"]);
+        assert_eq!(names[4..7], ["row of a replay by 1.4", "row of a replay by 1.6", "replay"]);
+        assert_eq!(names[7..], ["call on flux or times", "call for closing words"]);
+    }
+
+    #[test]
+    fn calls_for_closing_words_count_apart_from_others_on_flux() {
+        let (times, places) = (0, 0);
+        let kind = |question: Question| question.counted(&[], &Agreed { number: 15, rows: Vec::new() });
+        assert_eq!(kind(Question::ClosedIntervals { times, closings: 0, places }), [(8, 15)]);
+        for other in [Question::Step { word: 0, places }, Question::Intervals { times, places }] {
+            assert_eq!(kind(other), [(7, 15)]);
+        }
+        assert_eq!(kind(Question::Words { times: Vec::new(), room: 0, places }), [(7, 15)]);
     }
 }

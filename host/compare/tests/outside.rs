@@ -13,7 +13,9 @@ fn image_a_is_as_the_rules_say() {
     let image = scp::example::image_a();
     assert_eq!(scp::validate(&image, V1_6), Ok(()));
     assert_eq!(scp::header(&image, V1_6).unwrap().checksum, 980);
-    assert_eq!(scp::all_intervals(scp::flux(&image, V1_6, 0, 0).unwrap()), Ok((vec![160, 65_537, 240], 0)));
+    let flux = scp::flux(&image, V1_6, 0, 0).unwrap();
+    assert_eq!(scp::all_intervals(flux), Ok((vec![160, 65_537, 240], 0)));
+    assert_eq!(scp::all_closed_intervals(flux), Ok((vec![160, 65_537, 240], vec![0, 2, 3], 0)));
     agree("image A", &image);
 }
 
@@ -32,8 +34,8 @@ fn the_worked_examples_of_the_text_hold() {
     assert_eq!((number(header + 0x34), number(header + 0x38)), (fifth.duration, fifth.words));
     assert_eq!(header as u64 + u64::from(number(header + 0x3C)), fifth.offset);
     // "0x00DA = 218", "0x0000, 0x0000, 0x7FFF = 65536 + 65536 + 32767 = 163839"
-    assert_eq!(scp::step(&[0x00, 0xDA], 0), Ok(Step::Interval { ticks: 218, next: 1 }));
-    assert_eq!(scp::step(&[0, 0, 0, 0, 0x7F, 0xFF], 0), Ok(Step::Interval { ticks: 163_839, next: 3 }));
+    assert_eq!(scp::step(&[0x00, 0xDA], 0), Ok(Step::Interval { ticks: 218, closing: 0, next: 1 }));
+    assert_eq!(scp::step(&[0, 0, 0, 0, 0x7F, 0xFF], 0), Ok(Step::Interval { ticks: 163_839, closing: 2, next: 3 }));
     // "0x7A1200 = 8000000", which is 200 ms and so 300 rpm
     assert_eq!(scp::speed(&scp::example::image_a(), V1_6, 0, 0), Ok(Some(300.0)));
     // "My app" => 0x06 0x00 0x4D 0x79 0x20 .. 0x70 0x70 0x00, with 0x61 for "a"
@@ -118,7 +120,7 @@ fn the_longest_flux_is_read_and_longer_refused() {
     assert_eq!(number(&flux, &Question::Intervals { times: 0, places: 2 }), Ok(0));
     flux.extend([0, 1]);
     assert_eq!(number(&flux, &Question::Intervals { times: 1, places: 2 }), Ok(17));
-    assert_eq!(number(&flux, &Question::Step { word: 0, places: 3 }), Ok(17));
+    assert_eq!(number(&flux, &Question::Step { word: 0, places: 4 }), Ok(17));
     let rewrite = scp::rewrite(&mut scp::example::image_a(), V1_6, 0, 0, 0, &flux);
     assert_eq!(rewrite.unwrap_err().reason, Reason::Words);
 }

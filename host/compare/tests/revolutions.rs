@@ -130,6 +130,7 @@ fn a_capture_of_nine_revolutions_in_its_real_size_is_read_and_rewritten() {
     answer_some(&capture, Edition::V1_6, 159);
     let flux = scp::flux(&capture, Edition::V1_6, 159, 8).unwrap();
     assert_eq!(number(flux, &Question::Intervals { times: 33_333, places: 2 }), Ok(0));
+    assert_eq!(number(flux, &Question::ClosedIntervals { times: 33_333, closings: 33_333, places: 2 }), Ok(0));
 }
 
 #[test]

@@ -2,6 +2,8 @@
 //! the numbers.
 
 use scp::{direct, Answer, Call, Edition, Refusal};
+use scp_compare::cases::places;
+use scp_compare::difference::after;
 use scp_compare::edition::named;
 use scp_compare::generate;
 use scp_compare::image::{entry_at, flux_bytes, number_at};
@@ -109,6 +111,9 @@ fn agree(image: &[u8], edition: Edition, k: u32) {
     assert_eq!(plain(scp::track_speed(image, edition, t)), other(reader::track_speed(image, v, t)).map(|found| found.map(speeds)));
     let mut room = vec![9; 3000];
     assert_eq!(plain(scp::copy_flux(image, edition, t, k, &mut room)).map(|size| room[..size].to_vec()), flux);
+    // where it stands in the image, which may be an odd place
+    let closed = flux.and_then(|flux| other(reader::closed_intervals(&flux, flux.len(), flux.len())));
+    assert_eq!(plain(scp::flux(image, edition, t, k).and_then(scp::all_closed_intervals)), closed);
 }
 
 /// The direct calls of the wrapper answer about the image as those of the reader do, for its first track with an entry.
@@ -175,9 +180,9 @@ fn flux_and_times_are_those_of_the_reader() {
     for _ in 0..4000 {
         let flux = flux_bytes(&generate::words(&mut random, 20));
         let word = random.below(22) as u64;
-        let step = |found: reader::Step| match found.interval {
-            Some(ticks) => scp::Step::Interval { ticks, next: found.next },
-            None => scp::Step::Open { ticks: found.open },
+        let step = |found: reader::Step| match found {
+            reader::Step { interval: Some(ticks), closing: Some(closing), next, .. } => scp::Step::Interval { ticks, closing, next },
+            reader::Step { open, .. } => scp::Step::Open { ticks: open },
         };
         assert_eq!(plain(scp::step(&flux, word)), other(reader::step(&flux, word)).map(step));
         let (times, open) = scp::all_intervals(&flux).expect("the flux is words");
@@ -185,5 +190,26 @@ fn flux_and_times_are_those_of_the_reader() {
         let mut room = vec![9; flux.len()];
         let made = plain(scp::words(&times, &mut room)).map(|size| room[..size].to_vec());
         assert_eq!(made, other(reader::words(&times, flux.len())));
+    }
+}
+
+#[test]
+fn closing_words_are_those_of_the_reader() {
+    let mut random = Random::new(6);
+    for _ in 0..4000 {
+        let mut flux = flux_bytes(&generate::words(&mut random, 20));
+        if random.once_in(10) {
+            flux.push(1);
+        }
+        let all = other(reader::closed_intervals(&flux, flux.len(), flux.len()));
+        assert_eq!(plain(scp::all_closed_intervals(&flux)), all);
+        let needed = all.map_or(0, |(found, ..)| found.len());
+        let [times, closings] = [(); 2].map(|()| places(&mut random, needed));
+        let (mut lent_times, mut lent_closings) = (vec![9; times], vec![9; closings]);
+        let answer = plain(scp::closed_intervals(&flux, &mut lent_times, &mut lent_closings));
+        let expected = other(reader::closed_intervals(&flux, times, closings));
+        assert_eq!(answer, expected.clone().map(|(found, _, open)| (found.len(), open)));
+        let (found, closed_by, _) = expected.unwrap_or_default();
+        assert_eq!((lent_times, lent_closings), (after(9, times, &found), after(9, closings, &closed_by)));
     }
 }
