@@ -23,6 +23,14 @@ pub refused-keeps : (k i : ℕ) (old : List ℕ) (f : Filling) → refused k i �
 refused-keeps k i old (refuses n p) e = refl
 refused-keeps k i old (fills vs xs) e = let z : _≡_ {A = ℕ} 0 1 = cc in absurd (omega arith)
 
+-- too few places are refused with 15, and never with 17
+pub places-only : (places : ℕ) (vs xs : List ℕ) (p : ℕ) → inPlaces places vs xs ≡ refuses wordsRefused p → ⊥
+places-only places vs xs p e = go (ltb places (length xs)) e
+  where
+    go : (x : Bool) → cond x (refuses placesRefused 0) (fills vs xs) ≡ refuses wordsRefused p → ⊥
+    go true h = let z : placesRefused ≡ wordsRefused = cc in omega arith
+    go false h = let z : _≡_ {A = ℕ} 0 1 = cc in omega arith
+
 -- ---- a list made of flux bytes
 
 module _ (s : List ℕ) (places : ℕ) (xs : List ℕ) where

@@ -12,16 +12,12 @@ use Rattle.flux.specs.declared.Filled.{Filled}
 use Rattle.flux.specs.declared.Filled.the-variants as filled
 use Rattle.flux.specs.Coding.{wordsOf, badFluxSize}
 use Rattle.flux.specs.Reading.{intervals, openTime, closingNumbers}
-use Rattle.flux.specs.Answers.{placesRefused, wordsRefused, gives, Filling, refuses, fills, ofFilled, answerOf, bufferAfter, reading, closingReading}
+use Rattle.flux.specs.Answers.{placesRefused, wordsRefused, gives, Filling, refuses, ofFilled, answerOf, bufferAfter, reading, closingReading}
 use Rattle.flux.proofs.Counting.{as-many}
 use Rattle.flux.proofs.AnswerLaws.{refused-by, list-bad, list-short, list-fits}
 
--- the second list, where it is wanted
-after : Bool → List ℕ → Filling → List ℕ
-after m old f = cond m (bufferAfter old f) old
-
-kept : (m : Bool) (old : List ℕ) {f : Filling} (k i : ℕ) → f ≡ refuses k i → old ≡ after m old f
-unfolding after
+-- a refusal leaves the second list, wanted or not
+kept : (m : Bool) (old : List ℕ) {f : Filling} (k i : ℕ) → f ≡ refuses k i → old ≡ cond m (bufferAfter old f) old
 kept true old k i e = sym (ap (bufferAfter old) e)
 kept false old k i e = refl
 
@@ -34,7 +30,6 @@ module _ (s : List ℕ) (places : ℕ) (m : Bool) (times closings : List ℕ) wh
 
   refused-into : (k : ℕ) {r : Refusal} → reading s places ≡ refuses k 0 → closingReading s places ≡ refuses k 0 → r ≡ refusal k 0
       → ReadInto (filled.Refused r) times closings
-  unfolding after
   refused-into k first second said =
       (refused-by said ∙ sym (ap answerOf first), (sym (ap (bufferAfter times) first), kept m closings k 0 second))
 

@@ -12,7 +12,7 @@ use borrow.Author.Tests.{lt-ltb, le-ltb, ltb-true, ltb-false}
 use Rattle.octets.specs.Sums.{sumOf}
 use Rattle.flux.specs.Coding.{wordsOf, badFluxSize}
 use Rattle.flux.specs.Reading.{zeroTicks, intervals, openTime, closingWords, totalTicks, closingNumbers}
-use Rattle.flux.specs.Answers.{placesRefused, wordsRefused, gives, refuses, fills, answerOf, inPlaces, reading, closingReading}
+use Rattle.flux.specs.Answers.{placesRefused, wordsRefused, gives, refuses, fills, answerOf, reading, closingReading}
 use Rattle.flux.proofs.Counting.{counted, as-many}
 use Rattle.flux.proofs.AnswerLaws.{list-short, list-fits}
 use Rattle.flux_theorems.specs.Theorems.{Closes, NumbersClosingWords, TwoLists}

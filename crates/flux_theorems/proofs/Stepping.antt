@@ -1,6 +1,6 @@
 -- Stepping a cursor gives the intervals one by one. A step finds the first interval from its word on, and leaves the others; as it
 -- goes past the closing word, the words that are left grow fewer.
-use mathlib.Core.Path.{_≡_, refl, sym, ap, _∙_, subst}
+use mathlib.Core.Path.{_≡_, refl, sym, ap, _∙_}
 use Prim.Native.Nat.{ℕ, zero, suc, _+_, _<_, _≤_}
 use native.Mathlib.Omega.{arith}
 use mathlib.Core.List.{List, [], _∷_}
@@ -12,6 +12,7 @@ use lib.Seq.{drop-drop}
 use Rattle.flux.specs.Coding.{wordsOf, badFluxSize}
 use Rattle.flux.specs.Reading.{zeroTicks, intervals, openTime, closingNumbers}
 use Rattle.flux.specs.Answers.{placesRefused, wordsRefused, refused, gives, stepFrom, stepAt, refuses, fills, listRead, reading, closingReading}
+use Rattle.flux.proofs.AnswerLaws.{places-only}
 use Rattle.flux_theorems.specs.Theorems.{Steps, atEnd, step, StepsGiveIntervals, StepsAndBulk}
 
 -- What a step finds at word n of all words, where the words ws are left and p ticks are pending.
@@ -92,17 +93,13 @@ module _ (s : List ℕ) where
   stepped (atEnd e) h = let z : _≡_ {A = ℕ} 0 1 = cc in omega arith
   stepped (step e r) h = let z : _≡_ {A = ℕ} 0 1 = cc in omega arith
 
-  placed : (y : Bool) (vs xs : List ℕ) → cond y (refuses placesRefused 0) (fills vs xs) ≡ refuses wordsRefused 0 → ⊥
-  placed true vs xs h = let z : placesRefused ≡ wordsRefused = cc in omega arith
-  placed false vs xs h = let z : _≡_ {A = ℕ} 0 1 = cc in omega arith
-
   both-refused : (x : Bool) (n places : ℕ) → badFluxSize (length s) ≡ x
       → (stepAt s n ≡ refused wordsRefused 0) ↔ (reading s places ≡ refuses wordsRefused 0)
   both-refused true n places q = (λ _. simp q, λ _. simp q)
   both-refused false n places q =
       let ts = intervals 0 (wordsOf s) in (
         λ e. absurd (stepped (steps s n q) e),
-        λ e. absurd (placed (ltb places (length ts)) (length ts ∷ openTime 0 (wordsOf s) ∷ []) ts (rw q at e)),
+        λ e. absurd (places-only places (length ts ∷ openTime 0 (wordsOf s) ∷ []) ts 0 (rw q at e)),
       )
 
 pub steps-and-bulk : (s : List ℕ) → StepsAndBulk s

@@ -8,15 +8,15 @@ use mathlib.Core.List.{List, [], _∷_}
 use mathlib.Core.Bool.{Bool, true, false, cond}
 use native.Mathlib.Omega.{arith}
 use lib.ListN.{length}
-use lib.Dec.{ltb}
 use borrow.Author.Tests.{eqb-true, ne-eqb, le-ltb}
 use Rattle.refusals.specs.declared.Refusal.{Refusal}
 use Rattle.refusals.specs.Refusals.{none, passes}
 use Rattle.refusals.proofs.Finding.{holds-if, holds-from}
+use Rattle.flux.proofs.AnswerLaws.{places-only}
 use Rattle.flux_theorems.proofs.Closing.{two-lists}
 use Rattle.flux.specs.Coding.{wordsOf, badFluxSize, fluxLimit}
 use Rattle.flux.specs.Reading.{intervals, openTime, closingNumbers}
-use Rattle.flux.specs.Answers.{placesRefused, wordsRefused, Filling, refuses, fills, answerOf, inPlaces, reading, closingReading}
+use Rattle.flux.specs.Answers.{placesRefused, wordsRefused, Filling, refuses, fills, answerOf, reading, closingReading}
 use Rattle.copies.proofs.Parts.{part-length}
 use Rattle.scp_fields.specs.declared.Edition.{Edition}
 use Rattle.scp_fields.specs.Header.{trackEntry}
@@ -99,13 +99,6 @@ module _ (v : Edition) (b : List ℕ) where
 abbrev number-of : Filling → ℕ
 number-of (refuses n p) = n
 number-of (fills vs xs) = 0
-
-places-only : (places : ℕ) (vs xs : List ℕ) (p : ℕ) → inPlaces places vs xs ≢ refuses wordsRefused p
-places-only places vs xs p e = go (ltb places (length xs)) e
-  where
-    go : (x : Bool) → cond x (refuses placesRefused 0) (fills vs xs) ≡ refuses wordsRefused p → ⊥
-    go true e = let z : placesRefused ≡ wordsRefused = ap number-of e in omega arith
-    go false e = let z : _≡_ {A = ℕ} 0 wordsRefused = ap number-of e in omega arith
 
 passed : (x : Bool) (f : Filling) (p : ℕ) → x ≡ false → cond x (refuses wordsRefused 0) f ≡ refuses wordsRefused p → f ≡ refuses wordsRefused p
 passed x f p q e = rw q at e
