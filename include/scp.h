@@ -139,7 +139,9 @@ uint64_t scp_closed_intervals(const uint8_t *flux, size_t size, uint64_t *times,
 uint64_t scp_words(const uint64_t *times, size_t count, uint8_t *words, size_t size, uint64_t *out, size_t places);
 
 /* Puts a new duration and new words into a revolution, at most as many as it has; a read-only image's checksum moves by the change.
- * What others claim is decided by the edition: by 1.4 no footer and no string. Refusals 1 to 11, 13, 14, 17, 18. */
+ * What others claim is decided by the edition: by 1.4 no footer and no string. Refusals 1 to 11, 13, 14, 17, 18.
+ * One with as many words as were there is taken back by the former duration and words, by the same edition, several in reverse order:
+ * each is accepted, and the image is what it was. One with fewer is not: its former words are refused with 17. */
 uint64_t scp_rewrite(uint8_t *image, size_t size, uint32_t edition, uint32_t track, uint32_t revolution, uint32_t duration,
                      const uint8_t *words, size_t words_size);
 

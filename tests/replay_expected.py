@@ -15,8 +15,8 @@ import scp_images
 from scp_images import A, V1_4, V1_6, Image, Refused, judged
 
 STDIN = pathlib.Path(__file__).resolve().parent.parent / 'crates/replay_test/stdin'
-# The words of image A rewritten, a single one, and those that revolution 0 of the image string_in_flux has.
-WORDS = bytes.fromhex('01400000000100F0' '0005' '141B222907007878')
+# The words of image A rewritten, a single one, those that revolution 0 of the image string_in_flux has, and those of image A.
+WORDS = bytes.fromhex('01400000000100F0' '0005' '141B222907007878' '00A00000000100F0')
 # What follows the last call is no row, since a row has 7 numbers.
 LEFT_OVER = [1] * 6
 VALIDATE, HEADER, FOOTER, TRACK, REVOLUTION, FLUX, SPEED, SPEEDS, REWRITE, UNKNOWN = *range(9), 99
@@ -57,6 +57,22 @@ def mixed():
     ], {8: (18, 0), 10: (8, 2), 12: (8, 2), 14: (8, 2), 15: (8, 2), 16: (13, 0)}
 
 
+def around(calls):
+    """Each rewrite of image A with what the revolution reads then, and whether the image is valid."""
+    read = [ask(REVOLUTION, 16), ask(FLUX, 16), ask(VALIDATE, 16)]
+    return [ask(HEADER, 16), *read, *(one for call in calls for one in (call, *read)), *[ask(HEADER, 16)] * (17 - 4 * len(calls))]
+
+
+def taken_back():
+    """U-5: image A rewritten twice with as many words, and then what it was before the second rewrite and before the first put back."""
+    return around([rewrite(16, 7_000_000, 0, 8), rewrite(16, 9_000_000, 10, 8), rewrite(16, 7_000_000, 0, 8), rewrite(16, 8_000_000, 18, 8)])
+
+
+def shorter():
+    """U-8: image A rewritten with one word; what it was before is now too long, and is refused."""
+    return around([rewrite(16, 7_000_000, 8, 2), rewrite(16, 8_000_000, 18, 8)])
+
+
 def lists():
     """Name, image, places for the answers, calls, and which of them are refused: {call: (number, position)}."""
     refused = {14: (17, 0), 15: (13, 0), 17: (13, 0)}
@@ -65,6 +81,8 @@ def lists():
         ('a', A, 339, alike(16), refused),
         ('old_footer', scp_images.images()['old_footer'], 336, alike(14), refused),
         ('string_in_flux', rewrite_expected.images()['string_in_flux'][0], 336, *mixed()),
+        ('taken_back', A, 336, taken_back(), {}),
+        ('shorter', A, 336, shorter(), {8: (17, 0)}),
     ]
 
 
@@ -156,6 +174,8 @@ def expected(made):
         if places < len(rows):
             verdict, rows, refused, after = 'refused 15 at 0 ', [], {}, bytes(b)
         assert refused == known, (name, refused)
+        assert name != 'taken_back' or after == bytes(b)
+        assert name != 'shorter' or after != bytes(b)
         yield from ('== ' + name, verdict, printed(rows + [7] * (places - len(rows))), shown(after))
 
 

@@ -1,6 +1,6 @@
 -- Parts of lists: how long they are, and when two are the same.
-use Prim.Native.Nat.{ℕ, _+_, _<_, _≤_}
-use mathlib.Core.Path.{_≡_}
+use Prim.Native.Nat.{ℕ, _+_, _-_, _<_, _≤_}
+use mathlib.Core.Path.{_≡_, sym, ap, _∙_}
 use mathlib.Core.List.{List}
 use native.Mathlib.Omega.{arith}
 use lib.ListN.{length, getD, take, drop, length-take, length-drop}
@@ -18,3 +18,13 @@ part-same n p q s r room space same =
     ext-getD 0 (take n (drop s p)) (take n (drop r q)) (simp (length-take, length-drop) (omega arith)) (λ j l.
     let m : j < n = omega (arith, simp length-take at l) in
     rw (getD-take n (drop s p) j 0, getD-take n (drop r q) j 0, getD-drop s p j 0, getD-drop r q j 0) (same j m))
+
+-- Two parts that are the same at the same place have the same elements.
+pub part-agree : (n : ℕ) (p q : List ℕ) (s : ℕ) → part p s n ≡ part q s n → (j : ℕ) → s ≤ j → j < s + n → getD p j 0 ≡ getD q j 0
+part-agree n p q s e j l m =
+    let below : j - s < n = omega arith in
+    let there : s + (j - s) ≡ j = omega arith in
+    rw there at (sym (at p below) ∙ ap (λ (x : List ℕ). getD x (j - s) 0) e ∙ at q below)
+  where
+    at : (x : List ℕ) → j - s < n → getD (part x s n) (j - s) 0 ≡ getD x (s + (j - s)) 0
+    at x h = getD-take n (drop s x) (j - s) 0 h ∙ getD-drop s x (j - s) 0

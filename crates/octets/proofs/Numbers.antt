@@ -7,6 +7,7 @@ use mathlib.Core.Bool.{Bool, true, false, cond}
 use mathlib.Core.List.{List, [], _∷_, _++_}
 use native.Mathlib.Nat.{not-suc-le-zero, zero-add, add-zero, suc-add, mul-assoc, pow-succ', pow-suc, one-le-pow, mod-eq-of-lt, div-one, div-div-eq-div-mul}
 use native.Mathlib.Numerals.{add-one}
+use native.Mathlib.Decide.{ℕ-discrete}
 use native.Mathlib.Omega.{arith}
 use mir.Syntax.{w64}
 use mir.Val.{ofZ, toZ, sel}
@@ -74,6 +75,20 @@ unfolding leAt
 le-same zero p b i h = refl
 le-same (suc n) p b i h =
     cc (h i (omega arith) (omega arith), le-same n p b (suc i) (λ j l m. h j (omega arith) (omega arith)))
+
+-- The same number has the same bytes.
+pub le-agree : (n : ℕ) (p b : List ℕ) (i : ℕ) → Octets p → Octets b → leAt n p i ≡ leAt n b i → Agree p b i n
+unfolding leAt
+le-agree zero p b i f g e = λ j l m. absurd (omega arith)
+le-agree (suc n) p b i f g e =
+    let x = f i in
+    let y = g i in
+    let first : byteAt p i ≡ byteAt b i = omega arith in
+    let rest : leAt n p (suc i) ≡ leAt n b (suc i) = omega arith in
+    λ j l m. elim (ℕ-discrete j i) [
+      | yes z ↦ rw z first
+      | no z ↦ le-agree n p b (suc i) f g rest j (omega arith) (omega arith)
+    ]
 
 -- A store elsewhere leaves a number as it is.
 pub le-apart : (n : ℕ) (vs b : List ℕ) (i j : ℕ) → Apart j n i (length vs) → leAt n (sets b i vs) j ≡ leAt n b j

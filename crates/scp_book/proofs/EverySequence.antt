@@ -23,19 +23,19 @@ use Rattle.scp_book.specs.Claim.{Fits, AllFit, Does, EachDoes, Puts, Som
 -- ---- one call
 
 -- Track t is one of the table's up to the end track, and has revolution k; any edition that opens the image finds it.
-record Held (b : List ℕ) (t k : ℕ) : Type 0 where
-  within : t ≤ endTrack b
-  entry : trackEntry b t ≢ 0
-  below : k < revolutions b
+pub record Held (b : List ℕ) (t k : ℕ) : Type 0 where
+  pub within : t ≤ endTrack b
+  pub entry : trackEntry b t ≢ 0
+  pub below : k < revolutions b
 
 -- What one call does, whatever edition it names.
-record Step (b : List ℕ) (c : Call) : Type 0 where
-  does : Does b c
-  keeps : Kept b (after b c)
-  rest : (i : ℕ) → (Puts b c i → ⊥) → (In i (extent checksumAt 4) → ⊥) → byteAt (after b c) i ≡ byteAt b i
-  notes : (t k : ℕ) → Held b t k → reading (after b c) t k ≡ noted b c t k (reading b t k)
+pub record Step (b : List ℕ) (c : Call) : Type 0 where
+  pub does : Does b c
+  pub keeps : Kept b (after b c)
+  pub rest : (i : ℕ) → (Puts b c i → ⊥) → (In i (extent checksumAt 4) → ⊥) → byteAt (after b c) i ≡ byteAt b i
+  pub notes : (t k : ℕ) → Held b t k → reading (after b c) t k ≡ noted b c t k (reading b t k)
 
-step : (b : List ℕ) (c : Call) → Fits c → Step b c
+pub step : (b : List ℕ) (c : Call) → Fits c → Step b c
 unfolding after noted
 step b (ask v q) h = record { does = refl; keeps = still b; rest = λ i n o. refl; notes = λ t k l. refl }
 step b (rewrite v t k d ws) h =
@@ -76,7 +76,7 @@ all-rest b [] h i n o = refl
 all-rest b (c ∷ cs) h i n o = all-rest (after b c) cs (h .1) i (λ p. n (inr p)) o ∙ step b c (h .0) .rest i (λ p. n (inl p)) o
 
 -- what is held stays held
-held-on : {b q : List ℕ} {t k : ℕ} → Kept b q → Held b t k → Held q t k
+pub held-on : {b q : List ℕ} {t k : ℕ} → Kept b q → Held b t k → Held q t k
 held-on {t = t} g h =
     record { within = rw (g .last) (h .within); entry = rw (g .entries t (h .within)) (h .entry); below = rw (g .turns) (h .below) }
 

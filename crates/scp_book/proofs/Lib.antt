@@ -1,1 +1,2 @@
 pub mod EverySequence
+pub mod Appending

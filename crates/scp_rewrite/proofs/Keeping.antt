@@ -46,7 +46,7 @@ module _ (v : Edition) (b q : List ℕ) (t k d : ℕ) (ws : List ℕ) (a : Accep
   pub same-readWrite : readWrite q ≡ readWrite b
   same-readWrite = cc (low 8 (omega arith))
 
-  same-hasFooter : hasFooter v q ≡ hasFooter v b
+  pub same-hasFooter : hasFooter v q ≡ hasFooter v b
   same-hasFooter = cc (bit-same v b q (low 8 (omega arith)))
 
   same-end : dataEnd v q ≡ dataEnd v b
@@ -67,16 +67,23 @@ module _ (v : Edition) (b q : List ℕ) (t k d : ℕ) (ws : List ℕ) (a : Accep
     footer-byte : Agree q b (footerAt b) footerSize
     footer-byte i h m = let r = o .footer has .room in kept i (omega arith) (footer has (h, m))
 
-    same-string : (j : ℕ) → j < stringSlots → stringEntry q j ≡ stringEntry b j
+    pub same-string : (j : ℕ) → j < stringSlots → stringEntry q j ≡ stringEntry b j
     same-string j l =
         rw (f .size) (le-same 4 q b (footerAt b + 4 * j) (λ i h m. footer-byte i (omega arith) (omega arith)))
+
+    -- its length, its characters and its zero byte
+    string-byte : (j : ℕ) → j < stringSlots → stringEntry b j ≢ 0 → Agree q b (stringEntry b j) (3 + le16At b (stringEntry b j))
+    string-byte j l n i x y = let above = o .footer has .strings j l n .above in kept i (omega arith) (string j has l n (x, y))
+
+    pub same-length : (j : ℕ) → j < stringSlots → stringEntry b j ≢ 0 → le16At q (stringEntry b j) ≡ le16At b (stringEntry b j)
+    same-length j l n = le-same 2 q b (stringEntry b j) (λ i x y. string-byte j l n i x (omega arith))
 
     string-kept : (j : ℕ) → j < stringSlots → stringEntry b j ≢ 0 → StringHolds v q (stringEntry b j)
     string-kept j l n =
         let s = stringEntry b j in
         let h = o .footer has .strings j l n in
-        let same : Agree q b s (3 + le16At b s) = λ i x y. kept i (omega arith) (string j has l n (x, y)) in
-        let size : le16At q s ≡ le16At b s = le-same 2 q b s (λ i x y. same i x (omega arith)) in
+        let same = string-byte j l n in
+        let size = same-length j l n in
         let end = same-end in
         record {
           above = h .above;
@@ -118,7 +125,7 @@ module _ (v : Edition) (b q : List ℕ) (t k d : ℕ) (ws : List ℕ) (a : Accep
   name-kept : (u : ℕ) → Present v b u → Agree q b (trackEntry b u) 4
   name-kept u p i h m = header-byte u i p (omega arith) (λ e g. omega arith)
 
-  same-offset : (u j : ℕ) → Present v b u → j < revolutions b → fluxAt q (trackEntry b u) j ≡ fluxAt b (trackEntry b u) j
+  pub same-offset : (u j : ℕ) → Present v b u → j < revolutions b → fluxAt q (trackEntry b u) j ≡ fluxAt b (trackEntry b u) j
   same-offset u j p l =
       ap (λ (n : ℕ). trackEntry b u + n)
       (le-same 4 q b (revolutionAt (trackEntry b u) j + 8) (λ i h m. header-byte u i p (omega arith) (λ e g. omega arith)))
@@ -130,7 +137,7 @@ module _ (v : Edition) (b q : List ℕ) (t k d : ℕ) (ws : List ℕ) (a : Accep
     same-duration : durationAt q (trackEntry b u) j ≡ durationAt b (trackEntry b u) j
     same-duration = le-same 4 q b (revolutionAt (trackEntry b u) j) (λ i h m. numbers-kept i h (omega arith))
 
-    same-count : countAt q (trackEntry b u) j ≡ countAt b (trackEntry b u) j
+    pub same-count : countAt q (trackEntry b u) j ≡ countAt b (trackEntry b u) j
     same-count = le-same 4 q b (revolutionAt (trackEntry b u) j + 4) (λ i h m. numbers-kept i (omega arith) (omega arith))
 
   count-falls : (u j : ℕ) → Present v b u → j < revolutions b → countAt q (trackEntry b u) j ≤ countAt b (trackEntry b u) j
