@@ -2,12 +2,14 @@
 //!
 //! An image is first parsed into owned structures; every question is then answered from these. A direct question parses the
 //! header and one track alone.
-//! "The rules" in the comments are the paper of exact rules for this format, with four requests: Q-1, one track without the whole
-//! walk, Q-2, 1 to 255 revolutions, Q-3, the word that closed an interval, and Q-6, images of revision 1.4 beside those of 1.6.
+//! "The rules" in the comments are the paper of exact rules for this format, with five requests: Q-1, one track without the whole
+//! walk, Q-2, 1 to 255 revolutions, Q-3, the word that closed an interval, Q-5, taking a sequence of rewrites back, and Q-6, images
+//! of revision 1.4 beside those of 1.6.
 
 #![forbid(unsafe_code)]
 
 mod answers;
+mod call;
 pub mod direct;
 mod edition;
 mod flux;
@@ -15,6 +17,7 @@ mod image;
 mod questions;
 mod replay;
 mod rewrite;
+mod undo;
 
 pub use answers::{Footer, Header, Refusal, Revolution, Step, Track};
 pub use edition::Edition;
@@ -22,3 +25,4 @@ pub use flux::{closed_intervals, intervals, step, words};
 pub use questions::{flux, footer, header, revolution, speed, track, track_speed, validate};
 pub use replay::replay;
 pub use rewrite::rewrite;
+pub use undo::undo;

@@ -1,12 +1,10 @@
 //! A sequence of calls on one image, each given as a row of numbers and answered by one.
 
 use crate::answers::{refuse, Footer, Header, Refusal, Revolution, Track};
+use crate::call::{read_calls, Call, CALL};
 use crate::edition::Edition;
 use crate::questions;
 use crate::rewrite::rewrite;
-
-/// A call: kind, track, revolution, duration, start and length of its words, and edition.
-const CALL: usize = 7;
 
 /// An answer: refusal number, position, the values, then zeros.
 const ANSWER: usize = 16;
@@ -16,48 +14,15 @@ pub fn replay(image: &mut [u8], calls: &[u64], words: &[u8], answers: &mut [u64]
     if answers.len() / ANSWER < calls.len() / CALL {
         return Err(refuse(15));
     }
-    let rows = calls.chunks_exact(CALL);
-    for (call, answer) in rows.zip(answers.chunks_exact_mut(ANSWER)) {
-        if let &[kind, track, revolution, duration, start, length, edition] = call {
-            let part = cut(words, start, length);
-            let named = (limit(track), limit(revolution));
-            let found = answer_to(image, edition_of(edition), kind, named, duration as u32, part);
-            fill(answer, found);
-        }
+    for (call, answer) in read_calls(calls, words).zip(answers.chunks_exact_mut(ANSWER)) {
+        fill(answer, answer_to(image, &call));
     }
     Ok(())
 }
 
-/// The rules, Q-6: 14 names revision 1.4, every other number 1.6.
-fn edition_of(number: u64) -> Edition {
-    match number {
-        14 => Edition::V1_4,
-        _ => Edition::V1_6,
-    }
-}
-
-/// A track or revolution above 4,294,967,295 counts as that.
-fn limit(number: u64) -> u32 {
-    u32::try_from(number).unwrap_or(u32::MAX)
-}
-
-/// The part of the words that a call names; what runs past their end is cut.
-fn cut(words: &[u8], start: u64, length: u64) -> &[u8] {
-    let whole = words.len() as u128;
-    let end = (u128::from(start) + u128::from(length)).min(whole);
-    let start = u128::from(start).min(whole);
-    words.get(start as usize..end as usize).unwrap_or_default()
-}
-
 /// The values that answer a call, or its refusal; a kind that is not known is a validation.
-fn answer_to(
-    image: &mut [u8],
-    edition: Edition,
-    kind: u64,
-    (track, revolution): (u32, u32),
-    duration: u32,
-    words: &[u8],
-) -> Result<Vec<u64>, Refusal> {
+fn answer_to(image: &mut [u8], call: &Call) -> Result<Vec<u64>, Refusal> {
+    let &Call { kind, edition, track, revolution, duration, words } = call;
     match kind {
         1 => questions::header(image, edition).map(header_values),
         2 => questions::footer(image, edition).map(footer_values),

@@ -1,36 +1,12 @@
 //! The examples of the rules, and every refusal with its position; expected values by hand.
 
 mod common;
+mod sample;
 
 use common::{put, put_revolution, refused, revolutions_of_track_0};
+use sample::{a_with, image_a, old_a, replays, two_tracks, A_TRACK, NEW_FLUX};
 use scp_reader::Edition::{V1_4, V1_6};
 use scp_reader::*;
-
-/// The track data header and flux of image A, at 0x2B0.
-const A_TRACK: [u8; 24] = [
-    0x54, 0x52, 0x4B, 0x00, 0x00, 0x12, 0x7A, 0x00, 0x04, 0x00, 0x00, 0x00, 0x10, 0x00, 0x00, 0x00, 0x00, 0xA0, 0x00, 0x00, 0x00, 0x01,
-    0x00, 0xF0,
-];
-
-/// The flux of the rules' rewrite of A.
-const NEW_FLUX: [u8; 8] = [0x01, 0x40, 0x00, 0x00, 0x00, 0x01, 0x00, 0xF0];
-
-/// Image A of the rules, 712 bytes.
-fn image_a() -> Vec<u8> {
-    let mut image = vec![0; 688];
-    put(&mut image, 0, b"SCP\x16\x00\x01\x00\x00\x01");
-    put(&mut image, 0x0C, &[0xD4, 0x03, 0x00, 0x00]);
-    put(&mut image, 0x10, &[0xB0, 0x02, 0x00, 0x00]);
-    image.extend(A_TRACK);
-    image
-}
-
-/// Image A with some bytes changed.
-fn a_with(place: usize, bytes: &[u8]) -> Vec<u8> {
-    let mut image = image_a();
-    put(&mut image, place, bytes);
-    image
-}
 
 /// Image A with FLAGS bit 5, these bytes after it, and a footer with these string offsets.
 fn a_with_footer(between: &[u8], offsets: [u32; 6]) -> Vec<u8> {
@@ -43,24 +19,6 @@ fn a_with_footer(between: &[u8], offsets: [u32; 6]) -> Vec<u8> {
     image.extend(1_000_000_000_000_i64.to_le_bytes());
     image.extend([0x15, 0x13, 0x12, 0x16]);
     image.extend(b"FPCS");
-    image
-}
-
-/// An image of tracks 0 and 3 with R = 2, whose four flux stretches of 4 bytes do not overlap.
-/// Track data headers at 688 and 732, flux of track 0 at 716 and 720, of track 3 at 760 and 764.
-fn two_tracks() -> Vec<u8> {
-    let mut image = vec![0; 768];
-    put(&mut image, 0, b"SCP\x22\x80\x02\x00\x05\x03\x10\x00\x77");
-    put(&mut image, 0x10, &688_u32.to_le_bytes());
-    put(&mut image, 0x1C, &732_u32.to_le_bytes());
-    put(&mut image, 688, b"TRK\x00");
-    put_revolution(&mut image, 692, [8_000_000, 2, 28]);
-    put_revolution(&mut image, 704, [6_666_666, 2, 32]);
-    put(&mut image, 716, &[0, 1, 0, 2, 0, 3, 0, 4]);
-    put(&mut image, 732, b"TRK\x03");
-    put_revolution(&mut image, 736, [0, 2, 28]);
-    put_revolution(&mut image, 748, [0, 2, 32]);
-    put(&mut image, 760, &[0, 5, 0, 6, 0, 7, 0, 0]);
     image
 }
 
@@ -643,21 +601,6 @@ fn refusals_10_11_and_18_reach_the_last_of_255_revolutions() {
     accepts(&across, V1_6, 0, 254);
 }
 
-/// Runs calls on an image and compares the answers, each given without its closing zeros.
-fn replays(image: &mut [u8], calls: &[[u64; 7]], words: &[u8], expected: &[&[u64]]) {
-    assert_eq!(calls.len(), expected.len());
-    let mut answers = vec![7; 16 * calls.len() + 3];
-    // Six more numbers are no whole row and are ignored.
-    let numbers = [&calls.concat()[..], &[8, 0, 0, 0, 0, 0]].concat();
-    assert_eq!(replay(image, &numbers, words, &mut answers), Ok(()));
-    for (row, values) in answers.chunks(16).zip(expected) {
-        let mut whole = values.to_vec();
-        whole.resize(16, 0);
-        assert_eq!(row, whole);
-    }
-    assert_eq!(answers[16 * calls.len()..], [7, 7, 7]);
-}
-
 #[test]
 fn replay_answers_questions_in_rows() {
     let calls = [0, 1, 2, 3, 4, 5, 6, 7, 9, u64::MAX].map(|kind| [kind, 0, 0, 9, 9, 9, 16]);
@@ -735,17 +678,6 @@ fn replay_gives_footer_rows_and_positions() {
     assert_eq!(replay(&mut image, &[2, 0, 0, 0, 0, 0, 16], &[], &mut answers), Ok(()));
     assert_eq!(answers, [8, 2, 0, 0, 0, 0, 0, 0, 0, 0, 0, 0, 0, 0, 0, 0]);
     assert_eq!(replay(&mut image, &[0; 6], &[], &mut []), Ok(()));
-}
-
-/// Image A laid out for revision 1.4, 704 bytes: the table ends at 680, and there lies the track data header.
-/// The entry is A8 02 instead of B0 02, so that the byte sum is 980 - 8 = 972.
-fn old_a() -> Vec<u8> {
-    let mut image = vec![0; 680];
-    put(&mut image, 0, b"SCP\x16\x00\x01\x00\x00\x01");
-    put(&mut image, 0x0C, &[0xCC, 0x03, 0x00, 0x00]);
-    put(&mut image, 0x10, &[0xA8, 0x02, 0x00, 0x00]);
-    image.extend(A_TRACK);
-    image
 }
 
 /// Image A for 1.4 with some bytes changed.
