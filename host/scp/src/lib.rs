@@ -313,6 +313,25 @@ pub fn words(times: &[u64], words: &mut [u8]) -> Result<usize, Refusal> {
 /// assert_eq!(scp::header(&old, Edition::V1_4)?.checksum, 877);
 /// # Ok::<(), scp::Refusal>(())
 /// ```
+///
+/// A rewrite with as many words as were there is taken back by the former duration and words, by the same edition, several in reverse
+/// order: each is accepted, and the image is what it was. One with fewer is not, since its former words are refused.
+///
+/// ```
+/// use scp::{Edition, Reason};
+///
+/// let mut image = scp::example::image_a();
+/// let duration = scp::revolution(&image, Edition::V1_6, 0, 0)?.duration;
+/// let former = scp::flux(&image, Edition::V1_6, 0, 0)?.to_vec();
+/// scp::rewrite(&mut image, Edition::V1_6, 0, 0, 7, &[0x12; 8])?;
+/// scp::rewrite(&mut image, Edition::V1_6, 0, 0, duration, &former)?;
+/// assert_eq!(image, scp::example::image_a());
+///
+/// scp::rewrite(&mut image, Edition::V1_6, 0, 0, 7, &[0x12; 2])?;
+/// let back = scp::rewrite(&mut image, Edition::V1_6, 0, 0, duration, &former);
+/// assert_eq!(back.unwrap_err().reason, Reason::Words);
+/// # Ok::<(), scp::Refusal>(())
+/// ```
 pub fn rewrite(image: &mut [u8], edition: Edition, track: u32, revolution: u32, duration: u32, words: &[u8]) -> Result<(), Refusal> {
     Refusal::of_code(raw::rewrite(image, edition.number(), track, revolution, duration, words))
 }

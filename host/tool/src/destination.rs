@@ -30,7 +30,7 @@ pub enum Kind {
 /// Where a result is to be written.
 pub struct Destination {
     /// Its name, to be shown.
-    name: String,
+    pub name: String,
     /// Its path, once links are followed.
     path: PathBuf,
     /// The file that it replaces.
@@ -67,11 +67,12 @@ impl Destination {
         Ok(destination)
     }
 
-    /// A file that must not be there yet, beside this one; it has the permissions of the image where that is a regular file.
-    pub fn fresh(&self, out: &OsStr, image: &Input) -> Result<Destination, Failure> {
+    /// A file that must not be there yet, nor be the one that is written beside it; it has the permissions of the image where that is a
+    /// regular file.
+    pub fn fresh(out: &OsStr, image: &Input, beside: Option<&Destination>) -> Result<Destination, Failure> {
         let found = Found::at(out)?;
-        if place(&found.path) == place(&self.path) {
-            return Err(Failure::usage(format!("{} and {} are the same file", shown(out), self.name)));
+        if let Some(other) = beside.filter(|other| place(&found.path) == place(&other.path)) {
+            return Err(Failure::usage(format!("{} and {} are the same file", shown(out), other.name)));
         }
         if found.file.is_some() {
             return Err(Failure::file(format!("{}: it exists already, and is never replaced", shown(out))));

@@ -22,6 +22,7 @@ mod plot;
 mod read;
 mod reasons;
 mod replay;
+mod results;
 mod show;
 #[allow(unsafe_code)]
 #[cfg_attr(not(unix), path = "signals_elsewhere.rs")]

@@ -7,11 +7,11 @@ use scp::Reason;
 
 use crate::arguments::{number_of, place_of, Arguments, Command};
 use crate::checksum::{say_change, Checksum};
-use crate::destination::{Destination, Kind};
 use crate::failure::Failure;
 use crate::files::{shown, Input};
 use crate::image::Image;
 use crate::reasons::{self, Asked};
+use crate::results::Results;
 use crate::times::{words_of_times, Unit};
 use crate::undo::{kept, Change};
 
@@ -36,11 +36,10 @@ enum Form {
 fn run(arguments: &Arguments, out: &mut dyn Write) -> Result<(), Failure> {
     let [file, target, track, revolution] = arguments.operands(["FILE", "OUT", "TRACK", "REV"])?;
     let (track, revolution) = place_of(track, revolution)?;
-    let (duration, (form, source), undo) = (duration(arguments)?, Form::of(arguments)?, arguments.value("--undo"));
+    let (duration, (form, source)) = (duration(arguments)?, Form::of(arguments)?);
     let (edition, source) = (arguments.edition()?, Input::read_all(source)?);
     let mut image = Image { input: Input::read_image(file, arguments.has("--in-place"))?, edition };
-    let destination = Destination::new(target, &[&image.input, &source], arguments, Kind::Image)?;
-    let undo = undo.map(|undo| destination.fresh(undo, &image.input)).transpose()?;
+    let results = Results::new(Some(target), &image.input, &source, arguments)?;
     let old = image.ask_of((track, revolution), scp::revolution)?;
     let words = form.words(&source, old.words, arguments.has("--empty"))?;
     let duration = (old.duration, duration.unwrap_or(old.duration));
@@ -49,19 +48,9 @@ fn run(arguments: &Arguments, out: &mut dyn Write) -> Result<(), Failure> {
     let before = image.ask(Checksum::of)?;
     rewrite(&mut image, &source, &change, &words)?;
     let (after, input) = (image.ask(Checksum::of)?, &image.input);
-    match undo {
-        Some(undo) => {
-            let undo = undo.stage(change.undo(&former, &input.name, &shown(target))?.as_bytes())?;
-            destination.stage(&input.bytes)?.commit_after(undo)?;
-        }
-        None => destination.stage(&input.bytes)?.commit()?,
-    }
+    results.write(&input.bytes, |text| change.undo(&former, &input.name, &shown(target), text))?;
     writeln!(out, "track {track} revolution {revolution} of {} rewritten in {}", input.name, shown(target))?;
-    let kept = match arguments.value("--undo") {
-        Some(undo) => format!("are in {}", shown(undo)),
-        None => kept(arguments, input),
-    };
-    say(out, &change, &kept)?;
+    say(out, &change, &kept(arguments, input))?;
     Ok(say_change(out, &before, &after)?)
 }
 

@@ -1,25 +1,26 @@
 //! `fluxproof replay`: a sequence of calls on an image, run by the library in one go.
 
-use std::io::Write;
+use std::collections::BTreeSet;
+use std::io::{self, Write};
 
 use scp::{Answer, Call, Edition, Refusal};
 
 use crate::arguments::{Arguments, Command};
 use crate::checksum::{say_change, Checksum};
-use crate::destination::{Destination, Kind};
 use crate::editions;
 use crate::failure::{Failure, Status};
 use crate::files::{shown, Input};
 use crate::layout::Layout;
 use crate::numbers::number;
 use crate::reasons::{self, Asked};
-use crate::undo::{kept, Change};
+use crate::results::Results;
+use crate::undo::{kept, Change, Undo};
 
 /// The command.
 pub const COMMAND: Command = Command {
     name: "replay",
     flags: &["--force", "--in-place"],
-    values: &["--edition", "--out"],
+    values: &["--edition", "--out", "--undo"],
     help: include_str!("help/replay.txt"),
     run,
 };
@@ -49,11 +50,15 @@ struct Outcome {
     refused: bool,
     /// Whether some rewrite is.
     unmade: bool,
-    /// The lines of the rewrites that made their revolution shorter.
-    shorter: Vec<usize>,
+    /// The revolutions that were rewritten, by their track and number.
+    rewritten: BTreeSet<(u32, u32)>,
+    /// The lines of the rewrites that made their revolution shorter, and whether no line before had rewritten it.
+    shorter: Vec<(usize, bool)>,
+    /// What takes the rewrites back, where that is asked for.
+    undo: Option<Undo>,
 }
 
-/// Runs all calls on the image in memory, prints their answers, and writes the image where that is asked for.
+/// Runs all calls on the image in memory, prints their answers, and writes the image and what takes the calls back where that is asked for.
 fn run(arguments: &Arguments, out: &mut dyn Write) -> Result<(), Failure> {
     let [file, calls] = arguments.operands(["FILE", "CALLS"])?;
     let (target, edition) = (arguments.value("--out"), arguments.edition()?);
@@ -62,28 +67,26 @@ fn run(arguments: &Arguments, out: &mut dyn Write) -> Result<(), Failure> {
             return Err(Failure::usage(format!("{flag} is for --out, which is missing")));
         }
     }
-    let text = Input::read_all(calls)?;
+    let source = Input::read_all(calls)?;
     let mut input = Input::read_image(file, arguments.has("--in-place"))?;
-    let destination = target.map(|target| Destination::new(target, &[&input, &text], arguments, Kind::Image)).transpose()?;
-    if destination.is_some() {
+    let results = Results::new(target, &input, &source, arguments)?;
+    if target.is_some() {
         input = input.uncut()?;
     }
-    let lines = read_lines(&text, edition)?;
-    let (before, first) = (Checksum::of_any(&input.bytes), input.copy()?);
+    let lines = read_lines(&source, edition)?;
+    let (before, mut singly) = (Checksum::of_any(&input.bytes), input.copy()?);
     let answers = scp::replay_mixed(&mut input.bytes, lines.iter().filter_map(|(_, line)| line.call()));
-    let outcome = say_answers(first, &lines, answers, out)?;
-    if let (Some(destination), Some(target)) = (destination, target) {
+    let mut outcome = Outcome { undo: arguments.value("--undo").map(|undo| Undo::new(shown(undo))), ..Outcome::default() };
+    outcome.say_answers(&mut singly, &lines, answers, out)?;
+    assert!(singly == input.bytes, "the calls leave one image, made in one go or singly");
+    if let Some(names) = results.names() {
         if outcome.unmade {
-            return Err(Failure::refused(format!("{}: not written, since a rewrite is refused", shown(target))));
+            return Err(Failure::refused(format!("{names}: not written, since a rewrite is refused")));
         }
-        destination.stage(&input.bytes)?.commit()?;
-        writeln!(out, "written to {}", shown(target))?;
-        for line in &outcome.shorter {
-            writeln!(out, "{line}: {}; its former words {}", Change::SHORTER, kept(arguments, &input))?;
-        }
-        if let (Some(before), Some(after)) = (before, Checksum::of_any(&input.bytes)) {
-            say_change(out, &before, &after)?;
-        }
+        let to = target.map_or(String::new(), |target| format!(", written to {}", shown(target)));
+        let what = format!("of {} by {}{to}", input.name, source.name);
+        results.write(&input.bytes, |text| outcome.undo.as_ref().map_or(Ok(()), |undo| undo.write(&what, text)))?;
+        outcome.say_written(arguments, &input, before, out)?;
     }
     match outcome.refused {
         true => Err(Failure::Said(Status::Refused)),
@@ -91,35 +94,88 @@ fn run(arguments: &Arguments, out: &mut dyn Write) -> Result<(), Failure> {
     }
 }
 
-/// Prints each line, with the answer where it is a call. The rewrites are made once more on the first image, so that the reason of a refusal
-/// is looked up in the bytes that it is about.
-fn say_answers(
-    mut image: Vec<u8>,
-    lines: &[(usize, Line)],
-    answers: Vec<Result<Answer, Refusal>>,
-    out: &mut dyn Write,
-) -> Result<Outcome, Failure> {
-    let (mut outcome, mut answers) = (Outcome::default(), answers.into_iter());
-    for (number, line) in lines {
-        let (edition, call) = match line {
-            Line::Edition(edition) => {
-                writeln!(out, "{number}: edition {edition}")?;
-                continue;
+impl Outcome {
+    /// Prints each line, with the answer where it is a call. The rewrites are made once more on the first image, so that the reason of a
+    /// refusal is looked up in the bytes that it is about, and what takes them back is taken down.
+    fn say_answers(
+        &mut self,
+        image: &mut [u8],
+        lines: &[(usize, Line)],
+        answers: Vec<Result<Answer, Refusal>>,
+        out: &mut dyn Write,
+    ) -> Result<(), Failure> {
+        let mut answers = answers.into_iter();
+        for (number, line) in lines {
+            let (edition, call) = match line {
+                Line::Edition(edition) => {
+                    writeln!(out, "{number}: edition {edition}")?;
+                    continue;
+                }
+                Line::Call(edition, call) => (*edition, call),
+            };
+            // Each call has one.
+            let Some(answer) = answers.next() else { break };
+            let accepted = answer.is_ok();
+            let layout = Layout { bytes: image, edition };
+            let answer = answer.map_or_else(|refusal| reasons::of_asked(layout, asked(call), refusal), say_answer);
+            writeln!(out, "{number}: {}: {answer}", say_call(call))?;
+            match accepted {
+                true => self.follow(image, *number, edition, call)?,
+                false => self.note_refused(call),
             }
-            Line::Call(edition, call) => (*edition, call),
-        };
-        // Each call has one.
-        let Some(answer) = answers.next() else { break };
-        outcome.refused |= answer.is_err();
-        outcome.unmade |= answer.is_err() && matches!(call, Call::Rewrite { .. });
-        let layout = Layout { bytes: &image, edition };
-        let answer = answer.map_or_else(|refusal| reasons::of_asked(layout, asked(call), refusal), say_answer);
-        writeln!(out, "{number}: {}: {answer}", say_call(call))?;
-        if follow(&mut image, edition, call) {
-            outcome.shorter.push(*number);
+        }
+        Ok(())
+    }
+
+    /// Takes down that a call is refused.
+    fn note_refused(&mut self, call: &Call) {
+        self.refused = true;
+        self.unmade |= matches!(call, Call::Rewrite { .. });
+    }
+
+    /// Makes an accepted call once more, if it is a rewrite, and takes down what it changes.
+    fn follow(&mut self, image: &mut [u8], line: usize, edition: Edition, call: &Call) -> Result<(), Failure> {
+        let Call::Rewrite { track, revolution, duration, words } = call else { return Ok(()) };
+        let (track, revolution) = (*track, *revolution);
+        // What is rewritten is there.
+        let Ok(old) = scp::revolution(image, edition, track, revolution) else { return Ok(()) };
+        let (duration, count) = ((old.duration, *duration), old.words as usize);
+        let change = Change { edition, track, revolution, duration, words: (count, words.len() / 2) };
+        let first = self.rewritten.insert((track, revolution));
+        if change.is_shorter() {
+            self.shorter.push((line, first));
+        }
+        if let Some(undo) = &mut self.undo {
+            undo.add(line, change, &image[old.offset as usize..][..2 * count])?;
+        }
+        let _ = scp::rewrite(image, edition, track, revolution, duration.1, words);
+        Ok(())
+    }
+
+    /// Says what is written, what cannot be taken back, and what became of the checksum.
+    fn say_written(&self, arguments: &Arguments, input: &Input, before: Option<Checksum>, out: &mut dyn Write) -> io::Result<()> {
+        let target = arguments.value("--out");
+        if let Some(target) = target {
+            writeln!(out, "written to {}", shown(target))?;
+        }
+        if let Some(undo) = arguments.value("--undo") {
+            match self.rewritten.is_empty() {
+                true => writeln!(out, "nothing to take back: {} says so", shown(undo))?,
+                false => writeln!(out, "former durations and words written to {}", shown(undo))?,
+            }
+        }
+        for (line, first) in &self.shorter {
+            let kept = match *first || arguments.value("--undo").is_some() {
+                true => kept(arguments, input),
+                false => "are those of an earlier line".to_string(),
+            };
+            writeln!(out, "{line}: {}; its former words {kept}", Change::SHORTER)?;
+        }
+        match (before, target.and_then(|_| Checksum::of_any(&input.bytes))) {
+            (Some(before), Some(after)) => say_change(out, &before, &after),
+            _ => Ok(()),
         }
     }
-    Ok(outcome)
 }
 
 /// What a call asks of an image.
@@ -133,13 +189,6 @@ fn asked(call: &Call) -> Asked {
         Call::Rewrite { track, revolution, words, .. } => (*track, *revolution, words.len()),
     };
     Asked { track, revolution, size }
-}
-
-/// Makes a call once more, if it is a rewrite; gives whether it made its revolution shorter.
-fn follow(image: &mut [u8], edition: Edition, call: &Call) -> bool {
-    let Call::Rewrite { track, revolution, duration, words } = call else { return false };
-    let before = scp::revolution(image, edition, *track, *revolution).map_or(0, |found| found.words as usize);
-    scp::rewrite(image, edition, *track, *revolution, *duration, words).is_ok() && words.len() / 2 < before
 }
 
 /// The lines of a file with their numbers; the calls before the first line that names an edition are by the one given.

@@ -135,6 +135,10 @@ impl Drop for Bench {
 /// The new words of the example: 320, 65,537 and 240 ticks.
 pub const NEW_WORDS: [u8; 8] = [0x01, 0x40, 0x00, 0x00, 0x00, 0x01, 0x00, 0xF0];
 
+/// What is said of a shorter revolution.
+pub const SHORTER: &str =
+    "the revolution is shorter now, and this tool cannot make it longer again (a rewrite has at most as many words as are there)";
+
 /// Image A rewritten by the example: 885 is stored.
 pub fn patched_a() -> Vec<u8> {
     let mut image = scp::example::image_a();

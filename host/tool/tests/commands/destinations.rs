@@ -32,13 +32,16 @@ fn an_existing_file_is_replaced_only_by_force() {
 #[test]
 fn a_failed_write_leaves_no_temporary_file() {
     let bench = Bench::with_words();
+    bench.put("calls.txt", b"\n");
     let names = bench.names();
     // The temporary file can be made, but no file can have a name that ends like a folder's.
     for force in ["", "--force", "--undo undo.txt"] {
         for out in ["new.scp/", "a.scp/"] {
             bench.fails(&format!("patch a.scp {out} {TAIL} {force}"), 3, &format!("{out}: cannot be written: "));
+            bench.fails(&format!("replay a.scp calls.txt --out {out} {force}"), 3, &format!("{out}: cannot be written: "));
         }
     }
+    bench.fails("replay a.scp calls.txt --undo undo.txt/", 3, "undo.txt/: cannot be written: ");
     assert_eq!((bench.names(), bench.get("a.scp")), (names, scp::example::image_a()));
 }
 
@@ -204,10 +207,11 @@ mod rights {
         for (index, mode) in [0o600, 0o444, 0o640, 0o4755, 0o2755].into_iter().enumerate() {
             ["a.scp", "a.dsk", "data.bin"].iter().for_each(|name| set_mode(&bench, name, mode));
             bench.passes(&format!("patch a.scp p{index} 0 0 --duration keep --words words.bin --undo u{index}"));
-            bench.passes(&format!("replay a.scp calls.txt --out r{index}"));
+            bench.passes(&format!("replay a.scp calls.txt --out r{index} --undo v{index}"));
+            bench.passes(&format!("replay a.scp calls.txt --undo w{index}"));
             bench.passes(&format!("dsk sector a.dsk 0 0 0 --data s{index}"));
             bench.passes(&format!("dsk make data.bin m{index} {MAKE}"));
-            for name in ["p", "u", "r", "s", "m"] {
+            for name in ["p", "u", "r", "v", "w", "s", "m"] {
                 assert_eq!(rights(&bench, &format!("{name}{index}")).2, mode & 0o777, "{name}");
             }
         }

@@ -463,10 +463,12 @@ fn a_rewrite_by_revision_1_4_can_break_a_reading_by_1_6() {
         &format!("8: validate: {broken}"),
     ];
     assert_eq!(bench.refuses("replay s.scp calls.txt").lines().collect::<Vec<_>>(), due);
-    let out = bench.refuses("replay s.scp calls.txt --out b.scp");
+    let out = bench.refuses("replay s.scp calls.txt --out b.scp --undo undo.txt");
     assert_eq!(out.lines().take(due.len()).collect::<Vec<_>>(), due);
-    assert!(out.contains("\nwritten to b.scp\nchecksum ") && !out.contains("damaged"), "{out}");
+    assert!(out.contains("\nwritten to b.scp\n") && out.contains("\nchecksum ") && !out.contains("damaged"), "{out}");
     assert_eq!(bench.get("b.scp"), changed(string_in_flux(), 704, &[0x00, 0xA0, 0x00, 0x00, 0x00, 0x01]));
+    bench.passes("replay b.scp undo.txt --out back.scp");
+    assert_eq!(bench.get("back.scp"), string_in_flux());
     bench.put("calls.txt", format!("{rewrite}\nfooter\n").as_bytes());
     let out = bench.refuses("replay s.scp calls.txt");
     let shared = "refused 18 Shared: byte 704 is of its present flux and of the string maker";

@@ -11,6 +11,7 @@ mod plot;
 mod read;
 mod reasons;
 mod replay;
+mod replay_undo;
 mod revolutions;
 mod show;
 #[cfg(target_os = "linux")]

@@ -167,7 +167,7 @@ fn nothing_is_written_where_a_rewrite_is_refused() {
 #[test]
 fn a_revolution_that_gets_shorter_is_said() {
     let bench = Bench::new();
-    bench.put("calls.txt", b"rewrite 0 0 1 0001 0002 0003 0004\nrewrite 0 0 1 0001\n");
+    bench.put("calls.txt", b"speed 0 0\nrewrite 0 0 1 0001\n");
     let shorter = "2: the revolution is shorter now, and this tool cannot make it longer again";
     assert!(!bench.passes("replay a.scp calls.txt").contains("shorter"));
     let out = bench.passes("replay a.scp calls.txt --out b.scp");

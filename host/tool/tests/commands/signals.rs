@@ -146,14 +146,16 @@ fn a_signal_while_the_words_are_awaited_ends_the_command() {
 }
 
 #[test]
-fn at_any_moment_a_patch_and_its_undo_are_both_there_or_neither() {
+fn at_any_moment_an_image_and_its_undo_are_both_there_or_neither() {
     let bench = bench();
-    let tail = "0 0 --duration 8000000 --words words.bin --in-place --undo undo.txt";
+    bench.put("rewrite.txt", b"rewrite 0 0 8000000 0140 0000 0001 00F0\n");
+    let lines = ["patch a.scp a.scp 0 0 --duration 8000000 --words words.bin", "replay a.scp rewrite.txt --out a.scp"];
     let start = Instant::now();
     for attempt in 0..200_u64 {
         bench.put("a.scp", &scp::example::image_a());
         let _ = fs::remove_file(bench.path("undo.txt"));
-        let mut child = bench.command(&format!("patch a.scp a.scp {tail}")).spawn().expect("the command runs");
+        let line = format!("{} --in-place --undo undo.txt", lines[attempt as usize % 2]);
+        let mut child = bench.command(&line).spawn().expect("the command runs");
         let moment = Instant::now() + Duration::from_micros(attempt * 37 % 5000);
         while Instant::now() < moment {}
         send(&child, SIGNALS[attempt as usize % 5]);

@@ -189,7 +189,11 @@ fn a_file_that_grows_too_long_changes_nothing() {
     bench.put("out.svg", b"precious");
     let names = bench.names();
     let in_place = ["patch a.scp a.scp 0 0 --duration 1 --words words.bin --in-place", "replay a.scp calls.txt --out a.scp --in-place"];
-    let fresh = ["patch a.scp new.scp 0 0 --duration 1 --words words.bin --undo undo.txt", "plot a.scp 0 0 new.svg"];
+    let fresh = [
+        "patch a.scp new.scp 0 0 --duration 1 --words words.bin --undo undo.txt",
+        "replay a.scp calls.txt --out new.scp --undo undo.txt",
+        "plot a.scp 0 0 new.svg",
+    ];
     let writing = LINES[4..].iter().map(|line| line.replace("FILE", "a.scp"));
     for line in writing.chain(in_place.map(String::from)).chain(fresh.map(String::from)) {
         let run = shell(&bench, "sh", &[], &format!("ulimit -f 1; exec \"$0\" {line}"));
@@ -206,12 +210,18 @@ fn an_undo_file_that_grows_too_long_changes_nothing() {
     let words = [160; 150];
     let small = image(1, &[(0, &[(8_000_000, &words)])]);
     bench.put("a.scp", &small);
+    bench.put("twice.txt", format!("rewrite 0 0 1 {0}\nrewrite 0 0 2 {0}\n", "00A0".repeat(150)).as_bytes());
     let (names, out) = (bench.names(), "o".repeat(150));
     // The image has less than 1024 bytes, the text to undo has more.
-    let line = format!("patch a.scp {out} 0 0 --duration keep --words words.bin --undo undo.txt");
-    let run = shell(&bench, "sh", &[], &format!("ulimit -f 2; exec \"$0\" {line}"));
-    assert!(run.status == 3 && run.err.contains("undo.txt: cannot be written: File too large"), "{run:?}");
-    assert_eq!((bench.get("a.scp"), bench.names()), (small, names));
+    for line in [
+        &*format!("patch a.scp {out} 0 0 --duration keep --words words.bin --undo undo.txt"),
+        "replay a.scp twice.txt --out b.scp --undo undo.txt",
+        "replay a.scp twice.txt --undo undo.txt",
+    ] {
+        let run = shell(&bench, "sh", &[], &format!("ulimit -f 2; exec \"$0\" {line}"));
+        assert!(run.status == 3 && run.err.contains("undo.txt: cannot be written: File too large"), "{run:?}");
+        assert_eq!((bench.get("a.scp"), bench.names()), (small.clone(), names.clone()));
+    }
 }
 
 #[cfg(target_os = "linux")]
@@ -230,12 +240,14 @@ fn a_full_disk_changes_nothing() {
         \"$0\" dsk make a.bin full/new --tracks 1 --sectors 1; echo $?
         \"$0\" patch a.scp full/new 0 0 --duration 1 --words words.bin --undo undo.txt; echo $?
         \"$0\" patch a.scp new.scp 0 0 --duration 1 --words words.bin --undo full/undo.txt; echo $?
+        \"$0\" replay a.scp calls.txt --out full/new --undo undo.txt > /dev/null; echo $?
+        \"$0\" replay a.scp calls.txt --undo full/undo.txt > /dev/null; echo $?
         ls -A full; cat full/old";
     let run = shell(&bench, "unshare", &["-rm", "sh"], script);
     // Where mounting is not allowed, the limit on the size of files is all that is tested.
     if run.status == 0 {
-        assert_eq!(run.out, "3\n".repeat(9) + "old\nprecious", "{run:?}");
-        assert_eq!(run.err.matches(": cannot be written: No space left on device").count(), 9, "{run:?}");
+        assert_eq!(run.out, "3\n".repeat(11) + "old\nprecious", "{run:?}");
+        assert_eq!(run.err.matches(": cannot be written: No space left on device").count(), 11, "{run:?}");
         assert_eq!(bench.names(), ["a.bin", "a.dsk", "a.scp", "calls.txt", "full", "words.bin"]);
     } else {
         println!("no disk can be mounted: {run:?}");

@@ -2,14 +2,10 @@
 
 use scp::Edition;
 
-use crate::bench::{image, patched_a, store_sum, Bench};
+use crate::bench::{image, patched_a, store_sum, Bench, SHORTER};
 
 /// The end of a patch of image A.
 const TAIL: &str = "0 0 --duration 5 --words words.bin";
-
-/// What is said of a shorter revolution.
-const SHORTER: &str =
-    "the revolution is shorter now, and this tool cannot make it longer again (a rewrite has at most as many words as are there)";
 
 #[test]
 fn the_undo_file_is_a_call_of_replay() {
