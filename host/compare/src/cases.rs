@@ -4,9 +4,10 @@ use crate::ask::{agree_on, Case};
 use crate::edition::{is_1_4, some_number, some_row_number, V1_4, V1_6};
 use crate::generate;
 use crate::image::{duration_at, entry_at, flux_bytes, number_at};
+use crate::patches::patches;
 use crate::question::{number, Asked, Question};
 use crate::random::Random;
-use crate::sequence::{ANSWER, CALL, EDITION};
+use crate::sequence::{Calls, ANSWER, CALL, EDITION, REWRITE};
 use scp::Edition;
 
 /// The case of a number, under a seed: an image or flux, and questions about it.
@@ -150,10 +151,15 @@ pub fn places(random: &mut Random, needed: usize) -> usize {
     }
 }
 
-/// A track: mostly one that the header spans and that has an entry in the table, else any.
-fn some_track(image: &[u8], random: &mut Random) -> u32 {
+/// The tracks that the header spans and that have an entry in the table.
+pub fn present_tracks(image: &[u8]) -> Vec<u32> {
     let [start, end] = [6, 7].map(|place| image.get(place).copied().unwrap_or(0).into());
-    let present: Vec<u32> = (start..=end).filter(|&track| has_entry(image, track)).collect();
+    (start..=end).filter(|&track| has_entry(image, track)).collect()
+}
+
+/// A track: mostly one that is there, else any.
+pub fn some_track(image: &[u8], random: &mut Random) -> u32 {
+    let present = present_tracks(image);
     match random.below(8) {
         0 => random.pick(&[0, 164, 165, 166, 167, 168, 169, 255, 256, u32::MAX]),
         1 => random.edgy32(),
@@ -168,7 +174,7 @@ fn has_entry(image: &[u8], track: u32) -> bool {
 }
 
 /// A revolution: mostly one that the header counts, else any.
-fn some_revolution(image: &[u8], random: &mut Random) -> u32 {
+pub fn some_revolution(image: &[u8], random: &mut Random) -> u32 {
     let counted = revolutions(image).max(1);
     match random.below(9) {
         0 => counted,
@@ -209,17 +215,23 @@ fn new_words(image: &[u8], track: u32, revolution: u32, random: &mut Random) -> 
         1 => most,
         _ => random.between(0, most),
     };
-    let words: Vec<u16> = (0..words).map(|_| random.pick(&[0, 1, 0x0140, 0x1234, 0xABCD, 0xFFFF])).collect();
-    let mut bytes = flux_bytes(&words);
+    let mut bytes = some_flux(words, random);
     if random.once_in(12) {
         bytes.push(0);
     }
     bytes
 }
 
+/// So many words, zeros among them.
+pub fn some_flux(words: usize, random: &mut Random) -> Vec<u8> {
+    let words: Vec<u16> = (0..words).map(|_| random.pick(&[0, 1, 0x0140, 0x1234, 0xABCD, 0xFFFF])).collect();
+    flux_bytes(&words)
+}
+
 // ---- sequences of calls
 
-/// An image and a sequence of calls on it, as it is and with each call by the other edition.
+/// An image and a sequence of calls on it, as it is and with each call by the other edition; and a sequence, mostly a list of patches, that
+/// is taken back.
 fn sequence_case(random: &mut Random) -> Case<Question> {
     let bytes = generate::image(random);
     let (calls, words) = sequence(&bytes, random);
@@ -229,12 +241,14 @@ fn sequence_case(random: &mut Random) -> Case<Question> {
         1 => needed + random.below(40),
         _ => needed,
     };
-    let questions = [other_editions(&calls), calls].map(|calls| Question::Sequence { calls, words: words.clone(), places });
-    Case { bytes, questions: questions.into() }
+    let questions = [other_editions(&calls), calls.clone()].map(|calls| Question::Sequence { calls, words: words.clone(), places });
+    let (calls, words) = if random.once_in(4) { (calls, words) } else { patches(&bytes, random) };
+    let undo = Question::Undo { calls, words };
+    Case { bytes, questions: questions.into_iter().chain([undo]).collect() }
 }
 
 /// Calls, most of them rewrites and questions of the same few revolutions, by one edition or by both, and their words.
-pub fn sequence(bytes: &[u8], random: &mut Random) -> (Vec<u64>, Vec<u8>) {
+pub fn sequence(bytes: &[u8], random: &mut Random) -> Calls {
     let (mut calls, mut words) = (Vec::new(), Vec::new());
     let tracks = [some_track(bytes, random), some_track(bytes, random)];
     let editions = random.pick(&[&Edition::ALL[..1], &Edition::ALL[1..], &Edition::ALL, &Edition::ALL]);
@@ -242,11 +256,11 @@ pub fn sequence(bytes: &[u8], random: &mut Random) -> (Vec<u64>, Vec<u8>) {
         let (track, revolution) = (random.pick(&tracks), some_revolution(bytes, random));
         let start = words.len() as u64;
         let kind = match random.below(4) {
-            0 | 1 => 8,
+            0 | 1 => REWRITE,
             2 => random.below(9) as u64,
             _ => random.pick(&[0, 4, 5, 9, u64::MAX]),
         };
-        if kind == 8 {
+        if kind == REWRITE {
             words.extend(new_words(bytes, track, revolution, random));
         }
         let duration = u64::from(generate::duration(random)) + (random.below(2) as u64 * (1 << 32));
@@ -258,7 +272,7 @@ pub fn sequence(bytes: &[u8], random: &mut Random) -> (Vec<u64>, Vec<u8>) {
         }
     }
     // now and then less than a call behind the last
-    calls.extend(vec![8; if random.once_in(3) { random.below(CALL) } else { 0 }]);
+    calls.extend(vec![REWRITE; if random.once_in(3) { random.below(CALL) } else { 0 }]);
     (calls, words)
 }
 

@@ -68,10 +68,19 @@ pub fn same<T: Copy + Same + Debug>(what: &str, lent: &Guarded<T>, wanted: &[T])
     if lent.holds(wanted) {
         return Ok(());
     }
-    let at = lent.contents().iter().zip(wanted).position(|(a, b)| !a.same(b));
+    same_list(what, lent.contents(), wanted)?;
+    Err(Difference { what: format!("the guards of {what}"), wanted: "as they were".to_string(), library: "others".to_string() })
+}
+
+/// Whether two lists are equal to the bit.
+pub fn same_list<T: Copy + Same + Debug>(what: &str, library: &[T], wanted: &[T]) -> Result<(), Difference> {
+    if T::all_same(library, wanted) {
+        return Ok(());
+    }
+    let at = library.iter().zip(wanted).position(|(a, b)| !a.same(b));
     let tell = |values: &[T]| match at {
         Some(at) => format!("{:?} at {at}", values[at]),
-        None => "a guard".to_string(),
+        None => format!("{} in all", values.len()),
     };
-    Err(Difference { what: what.to_string(), wanted: tell(wanted), library: tell(lent.contents()) })
+    Err(Difference { what: what.to_string(), wanted: tell(wanted), library: tell(library) })
 }

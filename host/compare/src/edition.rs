@@ -28,6 +28,25 @@ pub fn is_1_4(number: u64) -> bool {
     number == u64::from(V1_4)
 }
 
+/// The edition that the number of a row names.
+pub fn of_row(number: u64) -> Edition {
+    if is_1_4(number) {
+        Edition::V1_4
+    } else {
+        Edition::V1_6
+    }
+}
+
+/// Whether the image opens by an edition: none of 1 to 11 refuses it.
+pub fn opens(image: &[u8], edition: Edition) -> bool {
+    scp::header(image, edition).is_ok()
+}
+
+/// The editions that the image opens by.
+pub fn opening(image: &[u8]) -> Vec<Edition> {
+    Edition::ALL.into_iter().filter(|&edition| opens(image, edition)).collect()
+}
+
 /// A number that names the edition: of revision 1.4 the only one, of 1.6 now and then another than 16.
 pub fn some_number(edition: Edition, random: &mut Random) -> u32 {
     match edition {
@@ -63,7 +82,8 @@ mod tests {
         for _ in 0..1000 {
             for edition in Edition::ALL {
                 let old = edition == Edition::V1_4;
-                assert_eq!((is_1_4(some_number(edition, &mut random).into()), is_1_4(some_row_number(edition, &mut random))), (old, old));
+                let row = some_row_number(edition, &mut random);
+                assert_eq!((is_1_4(some_number(edition, &mut random).into()), is_1_4(row), of_row(row)), (old, old, edition));
             }
         }
     }

@@ -2,9 +2,13 @@
 
 use crate::random::Random;
 use scp::Edition;
+use std::ops::Range;
 
 /// How long a footer is.
 pub const FOOTER_SIZE: usize = 48;
+
+/// Where the checksum stands.
+pub const CHECKSUM: Range<usize> = 12..16;
 
 /// Where the table has the entry of a track.
 pub fn entry_at(track: usize) -> usize {
@@ -106,13 +110,26 @@ pub fn set(image: &mut [u8], place: usize, bytes: &[u8]) {
     }
 }
 
+/// Whether FLAGS bit 4, read/write, is set.
+pub fn is_read_write(image: &[u8]) -> bool {
+    image.get(8).is_some_and(|flags| flags & 0x10 != 0)
+}
+
+/// The sum of all bytes from 0x10 on, modulo 2^32.
+fn byte_sum(image: &[u8]) -> u32 {
+    image.iter().skip(16).fold(0, |sum, &byte| sum.wrapping_add(byte.into()))
+}
+
 /// Stores the checksum that the image is to have: 0 on a read/write image, else the byte sum.
 pub fn store_checksum(image: &mut [u8]) {
-    let sum = match image.get(8) {
-        Some(flags) if flags & 0x10 == 0 => image.iter().skip(16).fold(0u32, |sum, &byte| sum.wrapping_add(byte.into())),
-        _ => 0,
-    };
-    set(image, 12, &sum.to_le_bytes());
+    let sum = if is_read_write(image) { 0 } else { byte_sum(image) };
+    set(image, CHECKSUM.start, &sum.to_le_bytes());
+}
+
+/// What every rewrite keeps of the checksum: on a read/write image what is stored, else that less the byte sum.
+pub fn checksum_kept(image: &[u8]) -> u32 {
+    let stored = number_at(image, CHECKSUM.start);
+    stored.wrapping_sub(if is_read_write(image) { 0 } else { byte_sum(image) })
 }
 
 impl Parts {

@@ -1,6 +1,6 @@
 //! Images laid out as real tools write them, and the worked examples of the public text.
 
-use crate::image::{set, store_checksum, FooterPart, Layout, Parts, RevolutionPart, TrackPart};
+use crate::image::{set, store_checksum, FooterPart, Layout, Parts, RevolutionPart, TrackPart, FOOTER_SIZE};
 use crate::random::Random;
 use scp::Edition;
 
@@ -105,6 +105,33 @@ pub fn image(style: &Style, words: usize) -> Vec<u8> {
         layout: Layout::InOrder,
     };
     parts.build(&mut random).image
+}
+
+/// A string of five characters, and one without its closing zero.
+pub const STRING: &[u8; 8] = b"\x05\0Amiga\0";
+pub const NO_STRING: &[u8; 8] = b"\x05\0Amigas";
+
+/// One track of two revolutions of four words: those of the first are also the fifth string of the footer, if they are a string. If not, the
+/// image opens by 1.4 alone.
+pub fn string_in_flux(words: &[u8; 8]) -> Vec<u8> {
+    let mut image = image(&Style { last_track: 0, revolutions: 2, timestamp: "", ..CAPTURE }, 4);
+    let flux = scp::revolution(&image, Edition::V1_4, 0, 0).expect("it is there").offset;
+    let slot = image.len() - FOOTER_SIZE + 4 * 4;
+    set(&mut image, flux as usize, words);
+    set(&mut image, slot, &(flux as u32).to_le_bytes());
+    store_checksum(&mut image);
+    image
+}
+
+/// The images that the programs of the library are run on, each with the name of its file.
+pub fn stored_images() -> Vec<(String, Vec<u8>)> {
+    let mut images = Vec::new();
+    for folder in ["../../crates/scp_test/data", "../../crates/rewrite_test/data"] {
+        let files: Vec<_> = std::fs::read_dir(folder).expect("the folder is there").map(|file| file.unwrap().path()).collect();
+        assert!(!files.is_empty(), "{folder} has images");
+        images.extend(files.into_iter().map(|file| (file.display().to_string(), std::fs::read(&file).expect("it is read"))));
+    }
+    images
 }
 
 /// Image A with other flux, and its checksum.

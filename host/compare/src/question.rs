@@ -9,6 +9,7 @@ use crate::direct::as_full;
 use crate::edition::{is_1_4, named};
 use crate::guarded::Guarded;
 use crate::sequence::{self, CALL, EDITION};
+use crate::undo;
 use scp::raw;
 use scp_reader as reader;
 
@@ -29,12 +30,13 @@ pub enum Asked {
     Rewrite { track: u32, revolution: u32, duration: u32, words: Vec<u8> },
 }
 
-/// A call with its arguments: on an image by the edition that a number names, a sequence of such calls, or one on flux or times. Lists that
-/// are filled are named by their sizes.
+/// A call with its arguments: on an image by the edition that a number names, a sequence of such calls, one that is taken back, or a call on
+/// flux or times. Lists that are filled are named by their sizes.
 #[derive(Clone, Debug, PartialEq, Eq)]
 pub enum Question {
     OnImage { edition: u32, asked: Asked },
     Sequence { calls: Vec<u64>, words: Vec<u8>, places: usize },
+    Undo { calls: Vec<u64>, words: Vec<u8> },
     Step { word: u64, places: usize },
     Intervals { times: usize, places: usize },
     ClosedIntervals { times: usize, closings: usize, places: usize },
@@ -66,7 +68,7 @@ impl Asked {
     }
 }
 
-/// What the two agree on: the number of the call's refusal, 0 for none, and of a sequence that of each row.
+/// What the two agree on: the number of the call's refusal, 0 for none, and of a sequence, or of the way back, that of each row.
 #[derive(Clone, Debug, PartialEq, Eq)]
 pub struct Agreed {
     pub number: u32,
@@ -83,6 +85,7 @@ const ROWS: usize = 4;
 const REPLAYS: usize = 6;
 const FLUX_AND_TIMES: usize = 7;
 const CLOSING_WORDS: usize = 8;
+const TAKEN_BACK: usize = 9;
 
 /// What a direct call never gives: footer, strings and checksum are not looked at, and nothing is written.
 const NEVER_DIRECTLY: &[u32] = &[7, 8, 12, 16, 17, 18];
@@ -101,7 +104,7 @@ impl Ask for Question {
     type Agreed = Agreed;
 
     /// Single calls on images, direct ones apart, and the rows of replays, each by both editions; replays as a whole; calls on flux and
-    /// times, those for closing words apart.
+    /// times, those for closing words apart; sequences that are taken back.
     const KINDS: &'static [Kind] = &[
         kind("single calls by 1.4 (none is refused with 7, 8 or 16)", "single call by 1.4", &[7, 8, 16]),
         kind("single calls by 1.6 (none is refused with 16)", "single call by 1.6", &[16]),
@@ -112,6 +115,7 @@ impl Ask for Question {
         Kind { all: "replays", one: "replay", numbers: &[0, 15], never: &[] },
         Kind { all: "calls on flux and times", one: "call on flux or times", numbers: &[0, 15, 16, 17], never: &[] },
         Kind { all: "calls for closing words", one: "call for closing words", numbers: &[0, 15, 17], never: &[] },
+        Kind { all: "sequences taken back (17 after fewer words)", one: "sequence taken back", numbers: &[0, 17], never: &[] },
     ];
 
     fn compare(&self, bytes: &[u8]) -> Result<Agreed, Difference> {
@@ -128,6 +132,8 @@ impl Ask for Question {
             }
             Question::Step { .. } | Question::Intervals { .. } | Question::Words { .. } => vec![(FLUX_AND_TIMES, agreed.number)],
             Question::ClosedIntervals { .. } => vec![(CLOSING_WORDS, agreed.number)],
+            Question::Undo { .. } if agreed.rows.is_empty() => Vec::new(),
+            Question::Undo { .. } => vec![(TAKEN_BACK, agreed.number)],
         }
     }
 
@@ -135,7 +141,7 @@ impl Ask for Question {
     fn without(&self, part: usize) -> Option<Question> {
         let mut less = self.clone();
         match &mut less {
-            Question::Sequence { calls, .. } if CALL * (part + 1) <= calls.len() => {
+            Question::Sequence { calls, .. } | Question::Undo { calls, .. } if CALL * (part + 1) <= calls.len() => {
                 calls.drain(CALL * part..CALL * (part + 1));
             }
             Question::Words { times, .. } if part < times.len() => {
@@ -152,6 +158,7 @@ pub fn compare(bytes: &[u8], question: &Question) -> Result<Agreed, Difference> 
     let number = match question {
         Question::OnImage { edition, asked } => on_image(bytes, *edition, asked),
         Question::Sequence { calls, words, places } => return sequence::compare(bytes, calls, words, *places),
+        Question::Undo { calls, words } => return undo::compare(bytes, calls, words),
         Question::Step { word, places } => step(bytes, *word, *places),
         Question::Intervals { times, places } => intervals(bytes, *times, *places),
         Question::ClosedIntervals { times, closings, places } => closed_intervals(bytes, (*times, *closings), *places),
@@ -354,7 +361,7 @@ mod tests {
         let direct: &[u32] = &[7, 8, 12, 16, 17, 18];
         assert_eq!(never, [&[7, 8, 16], &[16][..], direct, direct, &[7, 8, 15, 16], &[15, 16]]);
         let others: Vec<&[u32]> = Question::KINDS[6..].iter().map(|kind| kind.numbers).collect();
-        assert_eq!(others, [&[0, 15], &[0, 15, 16, 17][..], &[0, 15, 17]]);
+        assert_eq!(others, [&[0, 15], &[0, 15, 16, 17][..], &[0, 15, 17], &[0, 17]]);
         assert!(Question::KINDS[6..].iter().all(|kind| kind.never.is_empty()));
     }
 
@@ -376,7 +383,14 @@ mod tests {
         let names = Question::KINDS.iter().map(|kind| kind.one).collect::<Vec<_>>();
         assert_eq!(names[..4], ["single call by 1.4", "single call by 1.6", "direct call by 1.4", "direct call by 1.6"]);
         assert_eq!(names[4..7], ["row of a replay by 1.4", "row of a replay by 1.6", "replay"]);
-        assert_eq!(names[7..], ["call on flux or times", "call for closing words"]);
+        assert_eq!(names[7..], ["call on flux or times", "call for closing words", "sequence taken back"]);
+    }
+
+    #[test]
+    fn a_sequence_taken_back_counts_where_it_rewrote_anything() {
+        let undo = Question::Undo { calls: Vec::new(), words: Vec::new() };
+        assert_eq!(undo.counted(&[], &Agreed { number: 0, rows: Vec::new() }), []);
+        assert_eq!(undo.counted(&[], &Agreed { number: 17, rows: vec![0, 17, 0] }), [(9, 17)]);
     }
 
     #[test]

@@ -1,73 +1,35 @@
 //! Sequences of calls that name both editions: what the claim says of every sequence, on many by chance, and examples that show why it
 //! says more of those alone that name one edition throughout.
 
-use scp::{raw, Edition};
-use scp_compare::cases::sequence;
-use scp_compare::edition::is_1_4;
+use scp::Edition;
+use scp_compare::cases;
+use scp_compare::edition::{of_row, opens};
 use scp_compare::generate;
-use scp_compare::image::{duration_at, entry_at, number_at, set, store_checksum, FOOTER_SIZE};
-use scp_compare::outside::{image, Style, CAPTURE};
-use scp_compare::question::{compare, Question};
+use scp_compare::image::{checksum_kept, duration_at, entry_at, number_at, CHECKSUM};
+use scp_compare::outside::{string_in_flux, NO_STRING, STRING};
 use scp_compare::random::Random;
-use scp_compare::sequence::{ANSWER, CALL, EDITION};
+use scp_compare::sequence::{self, arguments, words_of, ANSWER, CALL, DURATION, EDITION, REWRITE};
 use std::collections::BTreeMap;
 use std::ops::Range;
 
-/// Where the checksum stands.
-const CHECKSUM: Range<usize> = 12..16;
-
-/// The kinds of the calls of the examples.
+/// The kinds of the other calls of the examples.
 const VALIDATE: u64 = 0;
 const REVOLUTION: u64 = 4;
-const REWRITE: u64 = 8;
 
 /// Runs the calls, on which library and reader agree, and gives number and position of each answer.
-fn run(image: &mut [u8], calls: &[u64], words: &[u8]) -> Vec<[u64; 2]> {
-    let places = ANSWER * (calls.len() / CALL);
-    let question = Question::Sequence { calls: calls.to_vec(), words: words.to_vec(), places };
-    if let Err(difference) = compare(image, &question) {
-        panic!("{question:?}: {difference:?}");
-    }
-    let mut answers = vec![0; places];
-    assert_eq!(raw::replay(image, calls, words, &mut answers), 0);
-    answers.chunks_exact(ANSWER).map(|row| [row[0], row[1]]).collect()
-}
-
-/// The edition that a call names.
-fn edition_of(call: &[u64]) -> Edition {
-    if is_1_4(call[EDITION]) {
-        Edition::V1_4
-    } else {
-        Edition::V1_6
-    }
+fn run(image: &mut Vec<u8>, calls: &[u64], words: &[u8]) -> Vec<[u64; 2]> {
+    let ran = sequence::run(image, calls, words, ANSWER * (calls.len() / CALL));
+    let ran = ran.unwrap_or_else(|difference| panic!("{calls:?}, {words:?}: {difference:?}"));
+    *image = ran.image;
+    ran.answers.chunks_exact(ANSWER).map(|row| [row[0], row[1]]).collect()
 }
 
 /// Whether all rewrites name the edition; a question changes nothing, whatever it names.
 fn all_name(edition: Edition, calls: &[u64]) -> bool {
-    calls.chunks_exact(CALL).all(|call| call[0] != REWRITE || edition_of(call) == edition)
-}
-
-/// Whether the image opens by an edition.
-fn opens(image: &[u8], edition: Edition) -> bool {
-    scp::header(image, edition).is_ok()
+    calls.chunks_exact(CALL).all(|call| call[0] != REWRITE || of_row(call[EDITION]) == edition)
 }
 
 // ---- examples
-
-/// One track of two revolutions of four words: those of the first are also the fifth string of the footer, if they are a string.
-fn string_in_flux(words: &[u8; 8]) -> Vec<u8> {
-    let mut image = image(&Style { last_track: 0, revolutions: 2, timestamp: "", ..CAPTURE }, 4);
-    let flux = scp::revolution(&image, Edition::V1_4, 0, 0).unwrap().offset;
-    let slot = image.len() - FOOTER_SIZE + 4 * 4;
-    set(&mut image, flux as usize, words);
-    set(&mut image, slot, &(flux as u32).to_le_bytes());
-    store_checksum(&mut image);
-    image
-}
-
-/// A string of five characters, and one without its closing zero.
-const STRING: &[u8; 8] = b"\x05\0Amiga\0";
-const NO_STRING: &[u8; 8] = b"\x05\0Amigas";
 
 /// A call about a revolution of track 0; a rewrite puts all words.
 fn call(edition: Edition, kind: u64, revolution: u64) -> [u64; CALL] {
@@ -133,15 +95,8 @@ fn readings(image: &[u8], edition: Edition) -> BTreeMap<Place, (u64, Reading)> {
 
 /// What a rewrite puts, and into which revolution.
 fn put(call: &[u64], words: &[u8]) -> (Place, Reading) {
-    let start = words.len().min(call[4] as usize);
-    let end = words.len().min(start.saturating_add(call[5] as usize));
-    ((call[1] as u32, call[2] as u32), (call[3] as u32, words[start..end].to_vec()))
-}
-
-/// The checksum as it is stored, less the sum of all bytes from 0x10 on.
-fn distance(image: &[u8]) -> u32 {
-    let sum = image.iter().skip(16).fold(0u32, |sum, &byte| sum.wrapping_add(byte.into()));
-    number_at(image, CHECKSUM.start).wrapping_sub(sum)
+    let [_, track, revolution] = arguments(call);
+    ((track, revolution), (call[DURATION] as u32, words_of(call, words).to_vec()))
 }
 
 /// By the edition of an accepted rewrite its revolution reads as put and every other one as before; gives the bytes that it set.
@@ -170,12 +125,7 @@ fn check_bytes(first: &[u8], last: &[u8], set: &[bool]) {
     assert_eq!(first.len(), last.len());
     let may_change = |place: usize| set[place] || CHECKSUM.contains(&place);
     assert!((0..first.len()).all(|place| first[place] == last[place] || may_change(place)));
-    let read_write = first.get(8).is_some_and(|flags| flags & 0x10 != 0);
-    if read_write {
-        assert_eq!(first.get(CHECKSUM), last.get(CHECKSUM));
-    } else {
-        assert_eq!(distance(first), distance(last));
-    }
+    assert_eq!(checksum_kept(first), checksum_kept(last));
 }
 
 /// Runs a sequence call by call, checks what the claim says of it, and gives its last image and how many rewrites were accepted.
@@ -187,7 +137,7 @@ fn check_sequence(first: &[u8], calls: &[u64], words: &[u8]) -> (Vec<u8>, u32) {
         let answer = run(&mut image, call, words)[0];
         if call[0] == REWRITE && answer == [0, 0] {
             let put = put(call, words);
-            check_rewrite(&before, &image, edition_of(call), &put).into_iter().for_each(|part| set[part].fill(true));
+            check_rewrite(&before, &image, of_row(call[EDITION]), &put).into_iter().for_each(|part| set[part].fill(true));
             puts.extend([put]);
             accepted += 1;
         } else {
@@ -220,7 +170,7 @@ fn what_the_claim_says_holds_of_every_sequence() {
             1 => string_in_flux(NO_STRING),
             _ => generate::image(&mut random),
         };
-        let (calls, words) = sequence(&first, &mut random);
+        let (calls, words) = cases::sequence(&first, &mut random);
         let (last, rewrites) = check_sequence(&first, &calls, &words);
         check_one_edition(&first, &last, &calls);
         let mixed = !Edition::ALL.into_iter().any(|edition| all_name(edition, &calls));

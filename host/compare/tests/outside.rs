@@ -5,7 +5,7 @@ use scp::{Reason, Step};
 use scp_compare::cases::agree;
 use scp_compare::edition;
 use scp_compare::image::number_at;
-use scp_compare::outside::{image, CAPTURE, CAPTURE_1_4, FULL_1_4, OLD_CAPTURE, READ_WRITE, READ_WRITE_1_4, SINGLE_SIDED};
+use scp_compare::outside::{image, stored_images, CAPTURE, CAPTURE_1_4, FULL_1_4, OLD_CAPTURE, READ_WRITE, READ_WRITE_1_4, SINGLE_SIDED};
 use scp_compare::question::{number, Asked, Question};
 
 #[test]
@@ -74,12 +74,8 @@ fn the_footer_of_a_capture_is_read() {
 
 #[test]
 fn the_stored_images_read_alike() {
-    for folder in ["../../crates/scp_test/data", "../../crates/rewrite_test/data"] {
-        let files: Vec<_> = std::fs::read_dir(folder).expect("the folder is there").map(|file| file.unwrap().path()).collect();
-        assert!(!files.is_empty(), "{folder} has images");
-        for file in files {
-            agree(&file.display().to_string(), &std::fs::read(&file).unwrap());
-        }
+    for (name, image) in stored_images() {
+        agree(&name, &image);
     }
 }
 
