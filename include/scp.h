@@ -33,8 +33,8 @@ enum scp_edition {
     SCP_EDITION_1_6 = 16
 };
 
-/* The numbers of refusal. Positions other than 0: the string (0 to 5) for SCP_STRING, the track for SCP_SLOT, SCP_TRACK and SCP_FLUX,
- * the index of the time for SCP_TIME. */
+/* The numbers of refusal. Positions other than 0: the string (0 to 5) for SCP_STRING and SCP_TEXT, the track for SCP_SLOT, SCP_TRACK
+ * and SCP_FLUX, the index of the time for SCP_TIME. */
 enum scp_refusal {
     SCP_ACCEPTED = 0,     /* no refusal */
     SCP_SIZE = 1,         /* length below 688 (by 1.4: 680) or above 268,435,456 */
@@ -54,57 +54,58 @@ enum scp_refusal {
     SCP_PLACES = 15,      /* the answer needs more places than were lent */
     SCP_TIME = 16,        /* a time is 0, a multiple of 65,536 or above 4,294,967,295 */
     SCP_WORDS = 17,       /* flux of an odd number of bytes or too long, or more words than the revolution has */
-    SCP_SHARED = 18       /* a byte that a rewrite stands on is claimed twice */
+    SCP_SHARED = 18,      /* a byte that a rewrite stands on is claimed twice */
+    SCP_TEXT = 19         /* by 1.6 alone: a present string is not well-formed UTF-8; directly after SCP_STRING of the same string */
 };
 
-/* The number of a refusal, 1 to 18, or 0. */
+/* The number of a refusal, 1 to 19, or 0. */
 static inline unsigned scp_refusal_number(uint64_t code) { return (unsigned)(code % 256); }
 
 /* The position of a refusal. */
 static inline uint64_t scp_refusal_position(uint64_t code) { return code / 256; }
 
-/* Validates the image: refusals 1 to 12.
+/* Validates the image: refusals 1 to 12 and 19.
  * Accepts exactly what obeys the edition's text. */
 uint64_t scp_validate(const uint8_t *image, size_t size, uint32_t edition);
 
 /* The header to out, 9 numbers: version, disk type, revolutions, start, end, flags, width, heads, checksum.
- * Refusals 1 to 11, 15. */
+ * Refusals 1 to 11, 19, 15. */
 uint64_t scp_header(const uint8_t *image, size_t size, uint32_t edition, uint64_t *out, size_t places);
 
 /* The footer to out, 13 numbers: 1, the offsets of maker, model, serial, creator, application and comments (0: absent), created and
  * modified (seconds from 1970, two's complement), software, hardware, firmware, format; 13 zeros where there is none, as always by
- * 1.4. Refusals 1 to 11, 15. */
+ * 1.4. Refusals 1 to 11, 19, 15. */
 uint64_t scp_footer(const uint8_t *image, size_t size, uint32_t edition, uint64_t *out, size_t places);
 
 /* A track to out, 4 numbers: cylinder, head, file offset of its header, revolutions.
- * Refusals 1 to 11, 13, 15. */
+ * Refusals 1 to 11, 19, 13, 15. */
 uint64_t scp_track(const uint8_t *image, size_t size, uint32_t edition, uint32_t track, uint64_t *out, size_t places);
 
 /* A revolution to out, 3 numbers: duration in ticks, words, file offset of its flux.
- * Refusals 1 to 11, 13, 14, 15. */
+ * Refusals 1 to 11, 19, 13, 14, 15. */
 uint64_t scp_revolution(const uint8_t *image, size_t size, uint32_t edition, uint32_t track, uint32_t revolution, uint64_t *out,
                         size_t places);
 
 /* The flux of a revolution to out, 2 bytes for each of its words.
- * Refusals 1 to 11, 13, 14, 15. */
+ * Refusals 1 to 11, 19, 13, 14, 15. */
 uint64_t scp_flux(const uint8_t *image, size_t size, uint32_t edition, uint32_t track, uint32_t revolution, uint8_t *out,
                   size_t places);
 
 /* The speed of a revolution to out, 2 floats: 1.0 and the speed in rpm, or two zeros for duration 0.
- * Refusals 1 to 11, 13, 14, 15. */
+ * Refusals 1 to 11, 19, 13, 14, 15. */
 uint64_t scp_speed(const uint8_t *image, size_t size, uint32_t edition, uint32_t track, uint32_t revolution, double *out,
                    size_t places);
 
 /* The speeds of a track to out, 3 floats: 1.0, slowest, fastest in rpm; or three zeros if all durations are 0.
- * Refusals 1 to 11, 13, 15. */
+ * Refusals 1 to 11, 19, 13, 15. */
 uint64_t scp_track_speed(const uint8_t *image, size_t size, uint32_t edition, uint32_t track, double *out, size_t places);
 
 /* Three direct functions: each answers as the one without "direct" in its name, but tests only the header, one entry of the table,
  * that track's header and the records of its revolutions. The refusals come in the order 1 to 6, 13, 9 to 11 of this track (11 of any
  * of its revolutions), 14, 15. The footer, its strings and other tracks are not tested, so there may be an answer on an image that every
- * other function refuses; by 1.6 the last 48 bytes of an image with FLAGS bit 5 are kept free for the footer even so. Where the image passes 1
- * to 11 the answer is the same; where a direct function refuses with one of 1 to 11 the other refuses, too, perhaps with another
- * number. */
+ * other function refuses; by 1.6 the last 48 bytes of an image with FLAGS bit 5 are kept free for the footer even so. Where the image
+ * passes 1 to 11 and 19 the answer is the same; where a direct function refuses with one of 1 to 11 the other refuses, too, perhaps with
+ * another number, which may be 19. */
 
 /* A track to out, as scp_track, directly: 4 numbers.
  * Refusals 1 to 6, 13, 9 to 11, 15. */
@@ -119,6 +120,11 @@ uint64_t scp_direct_revolution(const uint8_t *image, size_t size, uint32_t editi
  * Refusals 1 to 6, 13, 9 to 11, 14, 15. */
 uint64_t scp_direct_flux(const uint8_t *image, size_t size, uint32_t edition, uint32_t track, uint32_t revolution, uint8_t *out,
                          size_t places);
+
+/* To out, 1 number: how many bytes come before the place where the text stops being well-formed UTF-8 (the Unicode Standard), by the
+ * test of refusal 19; size where all of it is well-formed. A zero byte is well-formed here; in a string it is refused before, with 8.
+ * Refusal 15. */
+uint64_t scp_valid_up_to(const uint8_t *text, size_t size, uint64_t *out, size_t places);
 
 /* The next interval of the flux from a word on, to out, 4 numbers: interval in ticks (0: no closing word is left), open ticks, the
  * number of the word to go on from, the number of the word that closed the interval (0 also where there is no interval, which the first
@@ -139,7 +145,7 @@ uint64_t scp_closed_intervals(const uint8_t *flux, size_t size, uint64_t *times,
 uint64_t scp_words(const uint64_t *times, size_t count, uint8_t *words, size_t size, uint64_t *out, size_t places);
 
 /* Puts a new duration and new words into a revolution, at most as many as it has; a read-only image's checksum moves by the change.
- * What others claim is decided by the edition: by 1.4 no footer and no string. Refusals 1 to 11, 13, 14, 17, 18.
+ * What others claim is decided by the edition: by 1.4 no footer and no string. Refusals 1 to 11, 19, 13, 14, 17, 18.
  * One with as many words as were there is taken back by the former duration and words, by the same edition, several in reverse order:
  * each is accepted, and the image is what it was. One with fewer is not: its former words are refused with 17. */
 uint64_t scp_rewrite(uint8_t *image, size_t size, uint32_t edition, uint32_t track, uint32_t revolution, uint32_t duration,

@@ -183,6 +183,34 @@ static void decide(struct sample *a) {
     a->image[0x07] = 0;
 }
 
+/* How far a text is well-formed; and image A with a footer that has one string, the creator, of one byte: by 1.6 it must be text. */
+static void read_text(const struct sample *a) {
+    static const uint8_t text[4] = {'4', 0xC2, 0xB5, 's'};
+    const size_t string = a->size, footer = string + 4, size = footer + 48;
+    uint8_t image[712 + 4 + 48] = {0};
+    uint64_t out[13] = {7, 7};
+    EXPECT(scp_valid_up_to(text, 4, out, 0) == SCP_PLACES && out[0] == 7);
+    EXPECT(scp_valid_up_to(text, 4, out, 2) == 0 && out[0] == 4 && out[1] == 7);
+    EXPECT(scp_valid_up_to(text, 2, out, 1) == 0 && out[0] == 1);
+    EXPECT(scp_valid_up_to(text + 2, 2, out, 1) == 0 && out[0] == 0);
+    EXPECT(scp_valid_up_to(text, 0, out, 1) == 0 && out[0] == 0);
+    memcpy(image, a->image, string);
+    image[0x08] |= 0x20;
+    image[string] = 1;
+    image[string + 2] = 'a';
+    image[footer + 4 * 3] = (uint8_t)(string % 256);
+    image[footer + 4 * 3 + 1] = (uint8_t)(string / 256);
+    image[footer + 0x2B] = 0x16;
+    memcpy(image + footer + 0x2C, "FPCS", 4);
+    EXPECT(scp_footer(image, size, SCP_EDITION_1_6, out, 13) == 0 && out[4] == string);
+    image[string + 2] = 0x97;
+    EXPECT(scp_validate(image, size, SCP_EDITION_1_6) == SCP_TEXT + 256 * 3);
+    EXPECT(scp_footer(image, size, SCP_EDITION_1_6, out, 13) == SCP_TEXT + 256 * 3);
+    EXPECT(scp_rewrite(image, size, SCP_EDITION_1_6, 0, 0, 1, new_words, 8) == SCP_TEXT + 256 * 3);
+    EXPECT(scp_direct_track(image, size, SCP_EDITION_1_6, 0, out, 4) == 0);
+    EXPECT(scp_header(image, size, SCP_EDITION_1_4, out, 9) == 0);
+}
+
 int main(void) {
     static struct sample samples[2] = {{SCP_EDITION_1_4, 0x2A8, 972, 877, 0, {0}}, {SCP_EDITION_1_6, 0x2B0, 980, 885, 0, {0}}};
     for (int i = 0; i < 2; i++) {
@@ -195,6 +223,7 @@ int main(void) {
     }
     ask_by_the_other(&samples[0]);
     decide(&samples[1]);
+    read_text(&samples[1]);
     if (failures == 0) {
         printf("include/scp.h: every function called by both editions, as expected\n");
     }

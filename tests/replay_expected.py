@@ -15,8 +15,9 @@ import scp_images
 from scp_images import A, V1_4, V1_6, Image, Refused, judged
 
 STDIN = pathlib.Path(__file__).resolve().parent.parent / 'crates/replay_test/stdin'
-# The words of image A rewritten, a single one, those that revolution 0 of the image string_in_flux has, and those of image A.
-WORDS = bytes.fromhex('01400000000100F0' '0005' '141B222907007878' '00A00000000100F0')
+# The words of image A rewritten, a single one, those that revolution 0 of the image string_in_flux has, those of image A, and the third with
+# 0x97 for a letter of the string.
+WORDS = bytes.fromhex('01400000000100F0' '0005' '141B222907007878' '00A00000000100F0' '141B222907009778')
 # What follows the last call is no row, since a row has 7 numbers.
 LEFT_OVER = [1] * 6
 VALIDATE, HEADER, FOOTER, TRACK, REVOLUTION, FLUX, SPEED, SPEEDS, REWRITE, UNKNOWN = *range(9), 99
@@ -57,6 +58,16 @@ def mixed():
     ], {8: (18, 0), 10: (8, 2), 12: (8, 2), 14: (8, 2), 15: (8, 2), 16: (13, 0)}
 
 
+def no_text():
+    """R-19: of the same image a call by 1.4 leaves a string that is no text. Then every call by 1.6 is refused, and none by 1.4, until the former
+    words are put back."""
+    return [
+        ask(VALIDATE, 16), rewrite(14, 600, 26, 8), *(ask(kind, 16) for kind in range(8)), rewrite(16, 5, 8, 2, revolution=1), ask(UNKNOWN, 16),
+        *(ask(kind, 14) for kind in (VALIDATE, FOOTER, REVOLUTION)), rewrite(14, 500, 10, 8),
+        *(ask(kind, 16) for kind in (VALIDATE, FOOTER, TRACK, FLUX)), ask(VALIDATE, 14),
+    ], {call: (19, 2) for call in range(2, 12)}
+
+
 def around(calls):
     """Each rewrite of image A with what the revolution reads then, and whether the image is valid."""
     read = [ask(REVOLUTION, 16), ask(FLUX, 16), ask(VALIDATE, 16)]
@@ -81,6 +92,7 @@ def lists():
         ('a', A, 339, alike(16), refused),
         ('old_footer', scp_images.images()['old_footer'], 336, alike(14), refused),
         ('string_in_flux', rewrite_expected.images()['string_in_flux'][0], 336, *mixed()),
+        ('text_in_flux', rewrite_expected.images()['string_in_flux'][0], 336, *no_text()),
         ('taken_back', A, 336, taken_back(), {}),
         ('shorter', A, 336, shorter(), {8: (17, 0)}),
     ]

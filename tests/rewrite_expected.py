@@ -130,6 +130,7 @@ def images():
         'heads_3': (stored['heads_3'], refused(6)),
         'footer_unsigned': (stored['footer_unsigned'], refused(7), {**fine, TURN_4: 0, TRACK_1: 0}),
         'string_low': (stored['string_low'], refused(8), {**fine, TURN_4: 0, TRACK_1: 0}),
+        'no_text': (one(4, 704, strings=[(2, 720, b'My \x97pp')]), refused(19), fine),
         'slot_past_end': (stored['slot_past_end'], refused(9)),
         'no_trk': (stored['no_trk'], refused(10)),
         'count_5': (stored['count_5'], refused(11)),

@@ -235,9 +235,32 @@ def images():
         'ignored_bytes': put(image({0: [(8_000_000, [5])]}, flags=0xCF, version=0xFF, disk=0xFF), 11, b'\xFF'),
         'timestamp': image({0: [(8_000_000, [5])]}, tail=b'1/05/2014 5:15:21 PM'),
         'any_order': any_order(),
-        # every byte but zero, and 0x97 as the text's example has it (L-24)
-        'string_any_bytes': image({0: [(0, [])]}, footer=([bytes(range(1, 256)), b'My \x97pp'] + [None] * 4, 0, 0, [0, 0, 0, 0x16])),
-        **{name: b for name, (b, *_) in of_editions().items()},
+        **{name: b for name, (b, *_) in {**of_texts(), **of_editions()}.items()},
+    }
+
+
+def of_texts():
+    """Images whose strings are text, or are not (L-24, R-19). name: (image, what validating says by 1.6, and by 1.4)."""
+    def with_strings(*strings, tracks={0: [(0, [])]}, **more):
+        return image(tracks, footer=([*strings, *[None] * (6 - len(strings))], 0, 0, [0, 0, 0, 0x16]), **more)
+
+    widths = ['a\x01\x7F', '\x80\u07FF', '\u0800\uD7FF\uE000\uFFFF', '\U00010000\U0010FFFF', 'x' * 63 + '\u00B5s', '\uFEFF\uFDD0']
+    before = with_strings(b'maker', b'ok', b'My \x97pp', b'creator')
+    third = struct.unpack_from('<I', before, len(before) - 48 + 12)[0]
+    return {
+        'text_of_all_widths': (with_strings(*[text.encode() for text in widths]), 'valid', 'valid'),
+        # every byte but zero; then 0x97 as the text's example has it
+        'string_any_bytes': (with_strings(bytes(range(1, 256))), 'refused 19 at 0', 'valid'),
+        'text_97': (with_strings(b'maker', b'My \x97pp'), 'refused 19 at 1', 'valid'),
+        'text_overlong': (with_strings(None, None, b'\xC0\xAF'), 'refused 19 at 2', 'valid'),
+        'text_surrogate': (with_strings(None, b'', None, b'\xED\xA0\x80'), 'refused 19 at 3', 'valid'),
+        'text_above_10ffff': (with_strings(*[b'ok'] * 4, b'\xF4\x90\x80\x80'), 'refused 19 at 4', 'valid'),
+        # cut off by the end of the string
+        'text_cut': (with_strings(*[None] * 5, b'x' * 40 + b'\xE2\x82'), 'refused 19 at 5', 'valid'),
+        'text_before_string': (resum(put(before, third + 2 + 7, b'!')), 'refused 19 at 2', 'valid'),
+        'string_before_text': (with_strings(b'maker', b'o\0', b'My \x97pp'), 'refused 8 at 1', 'valid'),
+        'string_and_text': (with_strings(b'\x97\0'), 'refused 8 at 0', 'valid'),
+        'text_before_track': (put(with_strings(b'\x97', tracks={0: TRACK}), HEAD + 2, b'X'), 'refused 19 at 0', 'refused 10 at 0'),
     }
 
 
@@ -279,16 +302,21 @@ class Image:
         *offsets, created, modified = struct.unpack_from('<6Iqq', self.b, self.data_end)
         self.footer = offsets, created, modified, self.b[-8:-4]
         for j, o in enumerate(offsets):
-            if o and not self.string(o):
-                raise Refused(8, j)
+            if o:
+                self.read_text(j, o)
 
-    def string(self, o):
+    def read_text(self, j, o):
         area = self.b[:self.data_end]
         if o < self.edition.table_end or o + 3 > len(area):
-            return False
+            raise Refused(8, j)
         n = area[o] | area[o + 1] << 8
         text = area[o + 2:o + 3 + n]
-        return len(text) == n + 1 and text.find(0) == n
+        if len(text) != n + 1 or text.find(0) != n:
+            raise Refused(8, j)
+        try:
+            text[:n].decode()
+        except UnicodeDecodeError:
+            raise Refused(19, j) from None
 
     def read_track(self, t, entry):
         if not self.start <= t <= self.end or self.heads == 1 and t & 1 or self.heads == 2 and not t & 1:
@@ -445,6 +473,6 @@ def main(what):
 if __name__ == '__main__':
     assert len(A) == 712 and struct.unpack_from('<I', A, 12)[0] == 980
     assert len(OLD_A) == 704 and struct.unpack_from('<I', OLD_A, 12)[0] == 972
-    for name, (b, *verdicts) in of_editions().items():
+    for name, (b, *verdicts) in {**of_texts(), **of_editions()}.items():
         assert verdicts == [judged(b, V1_6), judged(b, V1_4)], name
     main(sys.argv[1])

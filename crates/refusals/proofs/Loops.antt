@@ -1,8 +1,8 @@
 -- A loop that searches upwards from i below n. Its invariant is that what is to be found from i on is r; here stand what holds where it
 -- stops, where it goes on, and where it ends.
-use Prim.Native.Nat.{ℕ, suc, _+_, _-_, _<_, _≤_}
+use Prim.Native.Nat.{ℕ, zero, suc, _+_, _-_, _<_, _≤_}
 use mathlib.Core.Path.{_≡_, refl, sym, ap, _∙_}
-use mathlib.Core.Bool.{Bool, true, false, _||_}
+use mathlib.Core.Bool.{Bool, true, false, _||_, or-assoc, or-false}
 use native.Mathlib.Omega.{arith}
 use borrow.Author.Tests.{eq-eqb}
 use Rattle.refusals.specs.declared.Refusal.{Refusal}
@@ -31,6 +31,34 @@ module _ (p : ℕ → Bool) {i n : ℕ} {r : Bool} (inv : anyFrom p i (n - i) �
   pub any-end : n ≤ i → false ≡ r
   unfolding anyFrom
   any-end h = sym (sym inv ∙ ap (anyFrom p i) (left-none i n h))
+
+-- the same for a loop that looks at a block of m indices in a turn
+module _ (p : ℕ → Bool) where
+  any-split : (i m n : ℕ) → anyFrom p i (m + n) ≡ (anyFrom p i m || anyFrom p (i + m) n)
+  unfolding anyFrom
+  any-split i zero n =
+      let e : 0 + n ≡ n = omega arith in
+      let f : i + 0 ≡ i = omega arith in
+      rw (e, f)
+  any-split i (suc m) n =
+      let e : suc m + n ≡ suc (m + n) = omega arith in
+      let f : i + suc m ≡ i + 1 + m = omega arith in
+      rw (e, f) (ap (λ (x : Bool). p i || x) (any-split (i + 1) m n) ∙ sym (or-assoc (p i) (anyFrom p (i + 1) m) (anyFrom p (i + 1 + m) n)))
+
+  -- a block grows by the index behind it
+  pub any-more : (i m : ℕ) → (anyFrom p i m || p (i + m)) ≡ anyFrom p i (m + 1)
+  unfolding anyFrom
+  any-more i m = sym (any-split i m 1 ∙ ap (λ (x : Bool). anyFrom p i m || x) (or-false (p (i + m))))
+
+module _ (p : ℕ → Bool) (i m : ℕ) {n : ℕ} {r : Bool} (inv : anyFrom p i (n - i) ≡ r) (fits : i + m ≤ n) where
+  block-step : r ≡ (anyFrom p i m || anyFrom p (i + m) (n - (i + m)))
+  block-step = sym inv ∙ (ap (anyFrom p i) (omega arith) ∙ any-split p i m (n - (i + m)))
+
+  pub block-here : anyFrom p i m ≡ true → true ≡ r
+  block-here t = sym (block-step ∙ simp t)
+
+  pub block-next : anyFrom p i m ≡ false → anyFrom p (i + m) (n - (i + m)) ≡ r
+  block-next t = sym (block-step ∙ simp t)
 
 -- the same for a loop that looks at two indices in a turn, where x and y stand for what it finds, and at the one that may be left by itself
 module _ (p : ℕ → Bool) (i : ℕ) {n : ℕ} {r : Bool} (inv : anyFrom p i (n - i) ≡ r) where

@@ -2,7 +2,7 @@
 ghost use mathlib.Core.Path.{_≡_};
 ghost use Rattle.refusals.specs.Refusals.{none, refusal};
 
-// The table of refusals, by number (R-1 to R-18, R-30 to R-35, R-41). Each number has one meaning: 13 and 14 say that what was
+// The table of refusals, by number (R-1 to R-19, R-30 to R-35, R-41). Each number has one meaning: 13 and 14 say that what was
 // asked for is not there, the track (of a DSK image also the side), and the revolution or the sector.
 pub const SIZE: u32 = 1;
 
@@ -42,6 +42,8 @@ pub const TIME: u32 = 16;
 pub const WORDS: u32 = 17;
 
 pub const SHARED: u32 = 18;
+
+pub const TEXT: u32 = 19;
 
 pub const DSK_SIGN: u32 = 30;
 

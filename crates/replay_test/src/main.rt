@@ -72,7 +72,7 @@ fn run(name: &[u8], image: &mut [u8], answers: &mut [u64]) {
     text(name);
     io::read_full(0, image);
     let calls = read_calls();
-    let mut words = [0; 26];
+    let mut words = [0; 34];
     io::read_full(0, &mut words);
     print_replayed(sequence::replay(image, &calls, &words, answers));
     print_rows(answers);
@@ -85,6 +85,7 @@ fn main() {
     run(b"== a\n", &mut [0; 712], &mut [7; 339]);
     run(b"== old_footer\n", &mut [0; 768], &mut [7; 336]);
     run(b"== string_in_flux\n", &mut [0; 800], &mut [7; 336]);
+    run(b"== text_in_flux\n", &mut [0; 800], &mut [7; 336]);
     run(b"== taken_back\n", &mut [0; 712], &mut [7; 336]);
     run(b"== shorter\n", &mut [0; 712], &mut [7; 336]);
 }

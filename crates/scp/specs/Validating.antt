@@ -1,4 +1,4 @@
--- Validating: 1 to 12 (R-12, RO-5).
+-- Validating: 1 to 12 and 19 (R-12, RO-5).
 use Prim.Native.Nat.{ℕ}
 use mathlib.Core.List.{List}
 use mathlib.Core.Bool.{Bool, not, cond}
@@ -17,6 +17,6 @@ wantedSum b = cond (readWrite b) 0 (trueSum b)
 abbrev pub badSum : List ℕ → Bool
 badSum b = not (eqb (storedSum b) (wantedSum b))
 
--- RO-5: validating: 1 to 12.
+-- RO-5: validating: 1 to 12 and 19.
 unfoldable pub validateFault : Edition → List ℕ → Refusal
 validateFault v b = firstOf (openFault v b) (refuseIf (badSum b) (refusal 12 0) none)

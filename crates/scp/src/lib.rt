@@ -77,7 +77,7 @@ fn wanted_sum(image: &[u8]) -> u32
     octets::byte_sum(&image[scp_fields::TABLE_AT..])
 }
 
-// Validates an image: refusals 1 to 12.
+// Validates an image: refusals 1 to 12 and 19.
 pub fn validate(image: &[u8], edition: Edition) -> Validated
     ensures { λ r. ⌜ ofValidated r ≡ validateAnswer edition (now (image .entry)) ⌝ }
 {

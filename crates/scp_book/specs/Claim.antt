@@ -68,7 +68,7 @@ AllName v (c ∷ cs) = Names v c × AllName v cs
 
 -- S-6, S-7, V-6: from the bytes b calls whose rewrites all name the edition v leave the bytes q.
 pub record OneEdition (v : Edition) (b q : List ℕ) : Type 0 where
-  -- an image that 1 to 11 refuse stays as it is
+  -- an image that 1 to 11 or 19 refuse stays as it is
   pub refusedStays : openFault v b ≢ none → q ≡ b
   -- an openable image stays openable
   pub staysOpen : openFault v b ≡ none → openFault v q ≡ none

@@ -34,7 +34,7 @@ use Rattle.boundary.proofs.SmallCodes.{Small, small-none, small-first, small-at
 module _ (v : Edition) (b : List ℕ) where
   string-small : (j : ℕ) → j < 256 → Small (stringFault v b j)
   unfolding stringFaultAt
-  string-small j h = small-if _ _ 0 (omega arith) (small-at _ _ 8 j (omega arith) (omega arith) small-none)
+  string-small j h = small-if _ _ 0 (omega arith) (small-at _ _ 8 j (omega arith) (omega arith) (small-at _ _ 19 j (omega arith) (omega arith) small-none))
 
   footer-small : Small (footerFault v b)
   unfolding footerFault

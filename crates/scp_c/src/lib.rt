@@ -1,6 +1,6 @@
 // The boundary to C and Rust: each call returns 0, or a refusal's number + 256 x its position, and puts its values to a lent buffer.
-// A slice passes as a pointer and a length (include/scp.h), and an edition as a number: 14 is 1.4, any other 1.6. What a call on flux, a
-// question or a direct call does stands in `flux_coded`, `scp_coded` and `direct_coded`.
+// A slice passes as a pointer and a length (include/scp.h), and an edition as a number: 14 is 1.4, any other 1.6. What a call on flux, on
+// text, a question or a direct call does stands in `flux_coded`, `utf8_coded`, `scp_coded` and `direct_coded`.
 ghost use mathlib.Core.Path.{_≡_};
 ghost use lib.ListN.{length};
 ghost use Rattle.scp_fields.specs.Editions.{editionOf};
@@ -12,12 +12,13 @@ ghost use Rattle.scp_rewrite.specs.Rewriting.{afterRewrite};
 ghost use Rattle.sequence.specs.Replaying.{replayAnswer, Replays};
 ghost use Rattle.boundary.specs.Boundary.{codeOf, within, outAfter};
 ghost use Rattle.scp_boundary.specs.Boundary.{numbersOf, floatsOf, stepNumbers, both, valuesOf};
+ghost use Rattle.utf8_coded.specs.Boundary.{textNumbers};
 use scp_rewrite::Rewritten;
 use sequence::Replayed;
 
 // ---- an image
 
-// Validates the image: refusals 1 to 12.
+// Validates the image: refusals 1 to 12 and 19.
 #[no_mangle]
 pub extern "C" fn scp_validate(image: &[u8], edition: u32) -> u64
     ensures { λ r. ⌜ r ≡ codeOf (numbersOf (validateAnswer (editionOf edition) (now (image .entry)))) ⌝ }
@@ -147,6 +148,17 @@ pub extern "C" fn scp_track_speed(image: &[u8], edition: u32, track: u32, out: &
     ensures { λ _. ⌜ now (out .exit) ≡ outAfter (now (out .entry)) (within (length (now (out .entry))) (floatsOf 3 (trackSpeedAnswer (editionOf edition) (now (image .entry)) track))) ⌝ }
 {
     scp_coded::track_speed(image, edition, track, out)
+}
+
+// ---- a text
+
+// How many bytes come before the place where the text stops being well-formed UTF-8.
+#[no_mangle]
+pub extern "C" fn scp_valid_up_to(text: &[u8], out: &mut [u64]) -> u64
+    ensures { λ r. ⌜ r ≡ codeOf (within (length (now (out .entry))) (textNumbers (now (text .entry)))) ⌝ }
+    ensures { λ _. ⌜ now (out .exit) ≡ outAfter (now (out .entry)) (within (length (now (out .entry))) (textNumbers (now (text .entry)))) ⌝ }
+{
+    utf8_coded::valid_up_to(text, out)
 }
 
 // ---- flux

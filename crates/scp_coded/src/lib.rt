@@ -14,7 +14,7 @@ use scp::Validated;
 use scp_lookup::RevolutionAnswer;
 use scp_lookup::TrackAnswer;
 
-// Validates the image: refusals 1 to 12.
+// Validates the image: refusals 1 to 12 and 19.
 pub fn validate(image: &[u8], edition: u32) -> u64
     ensures { λ r. ⌜ r ≡ codeOf (numbersOf (validateAnswer (editionOf edition) (now (image .entry)))) ⌝ }
 {

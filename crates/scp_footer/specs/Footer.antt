@@ -1,13 +1,15 @@
--- The footer and its strings (L-21 to L-24), and refusals 7 and 8.
-use Prim.Native.Nat.{ℕ, _+_, _-_, _*_}
+-- The footer and its strings (L-21 to L-24), and refusals 7, 8 and 19.
+use Prim.Native.Nat.{ℕ, _+_}
 use mathlib.Core.List.{List}
 use mathlib.Core.Bool.{Bool, not, _&&_, _||_}
 use lib.ListN.{length}
 use lib.Dec.{eqb, ltb}
 use Rattle.refusals.specs.declared.Refusal.{Refusal}
-use Rattle.octets.specs.Numbers.{byteAt, le16At, le32At}
+use Rattle.octets.specs.Numbers.{byteAt, le16At}
 use Rattle.refusals.specs.Refusals.{none, refusal, refuseIf}
 use Rattle.refusals.specs.Search.{anyFrom, firstFrom}
+use Rattle.copies.specs.Copying.{part}
+use Rattle.utf8.specs.Table.{wellFormed}
 use Rattle.scp_fields.specs.declared.Edition.{Edition}
 use Rattle.scp_fields.specs.Editions.{tableEnd}
 use Rattle.scp_fields.specs.Header.{hasFooter, dataEnd}
@@ -31,7 +33,7 @@ zeroAt b i = eqb (byteAt b i) 0
 abbrev pub zeroWithin : List ℕ → ℕ → ℕ → Bool
 zeroWithin b i n = anyFrom (zeroAt b) i n
 
--- L-18, L-23, L-24: a string at offset o of n bytes is misplaced or malformed: it starts below the table's end or ends above E, one of its
+-- L-18, L-23: a string at offset o of n bytes is misplaced or malformed: it starts below the table's end or ends above E, one of its
 -- bytes is zero, or no zero byte follows them.
 unfoldable pub badStringOf : Edition → List ℕ → ℕ → ℕ → Bool
 badStringOf v b o n =
@@ -41,18 +43,27 @@ badStringOf v b o n =
 abbrev pub badString : Edition → List ℕ → ℕ → Bool
 badString v b o = badStringOf v b o (le16At b o)
 
--- R-8: string j at offset o refuses where it is present, and misplaced or malformed; the position is j.
-unfoldable pub stringFaultAt : Edition → List ℕ → ℕ → ℕ → Refusal
-stringFaultAt v b o j = refuseIf (eqb o 0) none (refuseIf (badString v b o) (refusal 8 j) none)
+-- L-23: the bytes of the string at offset o, without its length and its closing zero.
+abbrev pub stringBytes : List ℕ → ℕ → List ℕ
+stringBytes b o = part b (o + 2) (le16At b o)
 
--- R-8: the same, at the offset that the footer has for string j.
+-- R-19, L-24: the bytes of the string at offset o are not well-formed UTF-8.
+abbrev pub badText : List ℕ → ℕ → Bool
+badText b o = not (wellFormed (stringBytes b o))
+
+-- R-8, R-19: string j at offset o refuses where it is present: with 8 where it is misplaced or malformed, then with 19 where it is no text;
+-- the position is j.
+unfoldable pub stringFaultAt : Edition → List ℕ → ℕ → ℕ → Refusal
+stringFaultAt v b o j = refuseIf (eqb o 0) none (refuseIf (badString v b o) (refusal 8 j) (refuseIf (badText b o) (refusal 19 j) none))
+
+-- R-8, R-19: the same, at the offset that the footer has for string j.
 abbrev pub stringFault : Edition → List ℕ → ℕ → Refusal
 stringFault v b j = stringFaultAt v b (stringEntry b j) j
 
--- R-8, RO-2: the first faulty string.
+-- R-8, R-19, RO-2: the first faulty string.
 abbrev pub stringsFault : Edition → List ℕ → Refusal
 stringsFault v b = firstFrom (stringFault v b) 0 stringSlots
 
--- RO-3: 7, then 8 where there is a footer.
+-- RO-3: 7, then 8 and 19 of each string where there is a footer.
 unfoldable pub footerFault : Edition → List ℕ → Refusal
 footerFault v b = refuseIf (badFooter v b) (refusal 7 0) (refuseIf (not (hasFooter v b)) none (stringsFault v b))

@@ -1,4 +1,4 @@
-// The footer of a SuperCard Pro image and its strings, by any edition: refusals 7 and 8.
+// The footer of a SuperCard Pro image and its strings, by any edition: refusals 7, 8 and 19.
 ghost use mathlib.Core.Path.{_≡_};
 ghost use Prim.Native.Nat.{_+_, _<_, _≤_};
 ghost use lib.ListN.{length};
@@ -27,6 +27,20 @@ fn bad_footer(image: &[u8], edition: Edition) -> bool
                 | (format < OLDEST_FORMAT)))
 }
 
+// Whether one of the 64 bytes from `at` on is zero: the compiler tests them at once.
+fn zero_block(image: &[u8], at: usize) -> bool
+    requires { ⌜ at + 64 ≤ length (now image) ⌝ }
+    ensures { λ r. ⌜ r ≡ zeroWithin (now (image .entry)) at 64 ⌝ }
+{
+    let mut zero = false;
+    let mut k = 0;
+    while k < 64 {
+        zero = zero | (image[at + k] == 0);
+        k += 1;
+    }
+    zero
+}
+
 // Whether a byte of the n from `start` on is zero.
 fn zero_within(image: &[u8], start: usize, n: usize) -> bool
     requires { ⌜ start + n ≤ length (now image) ⌝ }
@@ -34,6 +48,12 @@ fn zero_within(image: &[u8], start: usize, n: usize) -> bool
 {
     let end = start + n;
     let mut i = start;
+    while 64 <= end - i {
+        if zero_block(image, i) {
+            return true;
+        }
+        i += 64;
+    }
     while i < end {
         if image[i] == 0 {
             return true;
@@ -64,7 +84,7 @@ fn number16(image: &[u8], at: usize) -> usize
     octets::le16(image, at) as usize
 }
 
-// String j, whose offset is o.
+// What refuses string j, whose offset is o: 8, then 19.
 fn string_fault_at(image: &[u8], edition: Edition, o: u32, j: u32) -> Refusal
     ensures { λ r. ⌜ r ≡ stringFaultAt edition (now (image .entry)) o j ⌝ }
 {
@@ -76,7 +96,10 @@ fn string_fault_at(image: &[u8], edition: Edition, o: u32, j: u32) -> Refusal
     if bad_string_of(image, edition, at, n) {
         return refusals::refuse(refusals::STRING, j as u64);
     }
-    refusals::pass()
+    if utf8::well_formed_part(image, at + 2, n) {
+        return refusals::pass();
+    }
+    refusals::refuse(refusals::TEXT, j as u64)
 }
 
 // The first faulty string.
@@ -95,7 +118,7 @@ fn strings_fault(image: &[u8], edition: Edition) -> Refusal
     refusals::pass()
 }
 
-// What refuses the footer: 7, then 8 of the first faulty string; nothing where there is no footer.
+// What refuses the footer: 7, then 8 or 19 of the first faulty string; nothing where there is no footer.
 pub fn footer_fault(image: &[u8], edition: Edition) -> Refusal
     ensures { λ r. ⌜ r ≡ footerFault edition (now (image .entry)) ⌝ }
 {

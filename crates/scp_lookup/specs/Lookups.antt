@@ -17,11 +17,11 @@ use Rattle.scp_lookup.specs.declared.TrackAnswer.the-variants as track-a
 use Rattle.scp_lookup.specs.declared.RevolutionAnswer.{RevolutionAnswer}
 use Rattle.scp_lookup.specs.declared.RevolutionAnswer.the-variants as revolution-answer
 
--- RO-6, R-13: the entry of track t, or what refuses it: 1 to 11, then 13.
+-- RO-6, R-13: the entry of track t, or what refuses it: 1 to 11 and 19, then 13.
 unfoldable pub foundTrack : Edition → List ℕ → ℕ → Entry
 foundTrack v b t = unless (trackQuestion v b t) (entry.At (trackEntry b t)) entry.Refused
 
--- RO-6, T-6: the numbers of revolution k of track t, or what refuses it: 1 to 11, then 13, then 14.
+-- RO-6, T-6: the numbers of revolution k of track t, or what refuses it: 1 to 11 and 19, then 13, then 14.
 unfoldable pub foundRevolution : Edition → List ℕ → ℕ → ℕ → RevolutionAnswer
 foundRevolution v b t k =
     unless (revolutionQuestion v b t k) (revolution-answer.Found (dataOf b (trackEntry b t) k)) revolution-answer.Refused

@@ -1,4 +1,4 @@
-// Looking up a track and a revolution of a SuperCard Pro image: refusals 1 to 11, then 13, then 14. Every call on a track or a revolution
+// Looking up a track and a revolution of a SuperCard Pro image: refusals 1 to 11 and 19, then 13, then 14. Every call on a track or a revolution
 // but the direct ones goes by these two; each opens the image anew. And what a call answers of a track or a revolution that was found, whoever
 // found it.
 ghost use mathlib.Core.Path.{_≡_};
@@ -92,7 +92,7 @@ pub fn flux_on(image: &[u8], found: RevolutionAnswer) -> &[u8]
 
 // ---- finding
 
-// The table's entry of a track: 1 to 11, then 13.
+// The table's entry of a track: 1 to 11 and 19, then 13.
 pub fn find_track(image: &[u8], edition: Edition, track: u32) -> Entry
     ensures { λ r. ⌜ r ≡ foundTrack edition (now (image .entry)) track ⌝ }
 {
@@ -113,7 +113,7 @@ pub fn find_track(image: &[u8], edition: Edition, track: u32) -> Entry
     Entry::At(entry)
 }
 
-// A revolution of a track: 1 to 11, then 13, then 14.
+// A revolution of a track: 1 to 11 and 19, then 13, then 14.
 pub fn find_revolution(image: &[u8], edition: Edition, track: u32, k: u32) -> RevolutionAnswer
     ensures { λ r. ⌜ r ≡ foundRevolution edition (now (image .entry)) track k ⌝ }
 {

@@ -18,7 +18,8 @@ use Rattle.scp_fields.specs.Header.{sizeLimit, revolutions, startTrack, endTrac
 use Rattle.scp_fields.proofs.EditionLaws.{slots-least}
 use Rattle.scp_header.specs.HeaderTests.{badSize, badSign, badWidth, badRevolutions, badSpan, badHeads}
 use Rattle.scp_fields.specs.Footer.{footerAt, footerLeast, stringSlots, stringEntry}
-use Rattle.scp_footer.specs.Footer.{badFooter, zeroAt, zeroWithin, badStringOf, badString, stringFaultAt, stringFault, stringsFault, footerFault}
+use Rattle.utf8_theorems.proofs.Meaning.{well-formed-is-text}
+use Rattle.scp_footer.specs.Footer.{badFooter, zeroAt, zeroWithin, badStringOf, badString, stringBytes, badText, stringFaultAt, stringFault, stringsFault, footerFault}
 use Rattle.scp_tracks.specs.Tracks.{headOf, headerSize, badSlot, badMark, badTrack, fluxPast, badFlux, trackFaultAt, trackFault, tracksFault}
 use Rattle.scp_header.specs.HeaderFault.{headerFault}
 use Rattle.scp_open.specs.Opening.{openFault}
@@ -49,35 +50,43 @@ three-marked a v b w c x e =
 -- ---- strings
 
 module _ (v : Edition) (b : List ℕ) (o : ℕ) where
-  string-good : badString v b o ≡ false → StringHolds v b o
+  string-good : badString v b o ≡ false → badText b o ≡ false → StringHolds v b o
   unfolding badStringOf
-  string-good e =
+  string-good e t =
       let n = le16At b o in
       let above = neither (ltb o (tableEnd v)) _ e in
       let below = neither (ltb (dataEnd v b) (o + 3 + n)) _ (above .1) in
-      let text = neither (zeroWithin b (o + 2) n) _ (below .1) in
+      let zeros = neither (zeroWithin b (o + 2) n) _ (below .1) in
       record {
         above = ltb-false _ (tableEnd v) (above .0);
         below = ltb-false (dataEnd v b) _ (below .0);
-        text = λ i h. eqb-false _ 0 (from-none (zeroAt b) (o + 2) n (text .0) (o + 2 + i) (omega arith) (omega arith));
-        ending = eqb-true _ 0 (not-false _ (text .1));
+        nonzero = λ i h. eqb-false _ 0 (from-none (zeroAt b) (o + 2) n (zeros .0) (o + 2 + i) (omega arith) (omega arith));
+        ending = eqb-true _ 0 (not-false _ (zeros .1));
+        text = well-formed-is-text (stringBytes b o) .0 (not-false _ t);
       }
 
-  text-free : (n : ℕ) → ((i : ℕ) → i < n → byteAt b (o + 2 + i) ≢ 0) → zeroWithin b (o + 2) n ≡ false
-  text-free n h =
+  zero-free : (n : ℕ) → ((i : ℕ) → i < n → byteAt b (o + 2 + i) ≢ 0) → zeroWithin b (o + 2) n ≡ false
+  zero-free n h =
       none-from (zeroAt b) (o + 2) n (λ j a z.
       let i : o + 2 + (j - (o + 2)) ≡ j = omega arith in
       ne-eqb (byteAt b j) 0 (rw i at (h (j - (o + 2)) (omega arith))))
 
   good-string : StringHolds v b o → badString v b o ≡ false
   unfolding badStringOf
-  good-string h = simp (le-ltb _ _ (h .above), le-ltb _ _ (h .below), text-free _ (h .text), h .ending)
+  good-string h = simp (le-ltb _ _ (h .above), le-ltb _ _ (h .below), zero-free _ (h .nonzero), h .ending)
+
+  good-text : StringHolds v b o → badText b o ≡ false
+  good-text h = simp (well-formed-is-text (stringBytes b o) .1 (h .text))
 
 pub string-holds : (v : Edition) (b : List ℕ) (o j : ℕ) → (stringFaultAt v b o j .number ≡ 0) ↔ (o ≢ 0 → StringHolds v b o)
 unfolding stringFaultAt
 string-holds v b o j = (
-  λ e n. string-good v b o (not-refused (badString v b o) 7 j none (not-excused (eqb o 0) _ e (ne-eqb o 0 n)) .0),
-  λ h. excuse (eqb o 0) _ (λ n. pass (badString v b o) _ none (good-string v b o (h (eqb-false o 0 n))) refl),
+  λ e n.
+      let placed = not-refused (badString v b o) 7 j _ (not-excused (eqb o 0) _ e (ne-eqb o 0 n)) in
+      string-good v b o (placed .0) (not-refused (badText b o) 18 j none (placed .1) .0),
+  λ h. excuse (eqb o 0) _ (λ n.
+      let hold = h (eqb-false o 0 n) in
+      pass (badString v b o) _ _ (good-string v b o hold) (pass (badText b o) _ none (good-text v b o hold) refl)),
 )
 
 pub strings-hold : (v : Edition) (b : List ℕ)

@@ -1,4 +1,4 @@
--- Opening: refusals 1 to 11 in their order (RO-3, RO-4), and the opened image (T-1).
+-- Opening: refusals 1 to 11 and 19 in their order (RO-3, RO-4), and the opened image (T-1).
 use Prim.Native.Nat.{ℕ}
 use mathlib.Core.List.{List}
 use mathlib.Core.Bool.{Bool, cond}
@@ -13,7 +13,7 @@ use Rattle.scp_tracks.specs.Tracks.{tracksFaultIn, tracksFault}
 use Rattle.scp_open.specs.declared.Header.{Header}
 use Rattle.scp_open.specs.declared.Opened.{Opened}
 
--- RO-3, RO-4, T-1: what refuses the image: 1 to 6, then 7 and 8, then the tracks with 9 to 11.
+-- RO-3, RO-4, T-1: what refuses the image: 1 to 6, then 7, then the strings with 8 and 19, then the tracks with 9 to 11.
 unfoldable pub openFault : Edition → List ℕ → Refusal
 openFault v b = firstOf (headerFault v b) (firstOf (footerFault v b) (tracksFault v b))
 

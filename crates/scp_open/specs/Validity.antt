@@ -1,4 +1,4 @@
--- What an image must obey to be opened by an edition (RO-5), as a list of plain statements, and the claim that refusals 1 to 11 refuse
+-- What an image must obey to be opened by an edition (RO-5), as a list of plain statements, and the claim that refusals 1 to 11 and 19 refuse
 -- exactly what breaks it.
 use Prim.Native.Nat.{ℕ, _+_, _*_, _<_, _≤_}
 use mathlib.Core.Path.{_≡_}
@@ -12,15 +12,18 @@ use Rattle.scp_fields.specs.declared.Edition.{Edition}
 use Rattle.scp_fields.specs.Editions.{slots, tableEnd}
 use Rattle.scp_fields.specs.Header.{sizeLimit, revolutions, startTrack, endTrack, readWrite, hasFooter, width, heads, trackEntry, dataEnd}
 use Rattle.scp_fields.specs.Footer.{footerAt, footerLeast, stringSlots, stringEntry}
+use Rattle.utf8_theorems.specs.Encoding.{Text}
+use Rattle.scp_footer.specs.Footer.{stringBytes}
 use Rattle.scp_tracks.specs.Tracks.{headOf, headerSize, countAt, fluxAt}
 use Rattle.scp_open.specs.Opening.{openFault}
 
--- RO-5, L-18, L-23: a string at offset o is well placed and well formed.
+-- RO-5, L-18, L-23, L-24: a string at offset o is well placed and well formed, and its bytes are text in UTF-8.
 pub record StringHolds (v : Edition) (b : List ℕ) (o : ℕ) : Type 0 where
   pub above : tableEnd v ≤ o
   pub below : o + 3 + le16At b o ≤ dataEnd v b
-  pub text : (i : ℕ) → i < le16At b o → byteAt b (o + 2 + i) ≢ 0
+  pub nonzero : (i : ℕ) → i < le16At b o → byteAt b (o + 2 + i) ≢ 0
   pub ending : byteAt b (o + 2 + le16At b o) ≡ 0
+  pub text : Text (stringBytes b o)
 
 -- RO-5, L-21: the footer is there whole, with "FPCS", version 0x16 or later, and every present string holds.
 pub record FooterHolds (v : Edition) (b : List ℕ) : Type 0 where

@@ -1,4 +1,4 @@
-// Opening a SuperCard Pro image by an edition: refusals 1 to 11, its header and its table of tracks.
+// Opening a SuperCard Pro image by an edition: refusals 1 to 11 and 19, its header and its table of tracks.
 // Opening looks at the header, the table, the footer with its strings, and the track data headers; it reads no flux.
 ghost use mathlib.Core.Path.{_≡_};
 ghost use Prim.Native.Nat.{_≤_};
@@ -81,8 +81,8 @@ fn footer_fault(image: &[u8], edition: Edition, footer: bool) -> Refusal
     refusals::pass()
 }
 
-// What refuses the header, the footer where it is to be tested, and the tracks from `from` up to `to`, which is left out: the first of 1 to 11, or
-// number 0. Opening tests all of it, a direct call the header and one track.
+// What refuses the header, the footer where it is to be tested, and the tracks from `from` up to `to`, which is left out: the first of 1 to 11 and
+// 19, or number 0. Opening tests all of it, a direct call the header and one track.
 pub fn first_fault(image: &[u8], edition: Edition, footer: bool, from: usize, to: usize) -> Refusal
     ensures { λ r. ⌜ r ≡ faultIn edition (now (image .entry)) footer from to ⌝ }
 {
@@ -135,7 +135,7 @@ fn refused_image(refusal: Refusal) -> Opened
     }
 }
 
-// Opens an image by an edition: refusals 1 to 11, its header and its table.
+// Opens an image by an edition: refusals 1 to 11 and 19, its header and its table.
 pub fn open(image: &[u8], edition: Edition) -> Opened
     ensures { λ r. ⌜ r ≡ openedOf edition (now (image .entry)) ⌝ }
 {

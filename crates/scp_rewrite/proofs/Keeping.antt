@@ -85,11 +85,15 @@ module _ (v : Edition) (b q : List ℕ) (t k d : ℕ) (ws : List ℕ) (a : Accep
         let same = string-byte j l n in
         let size = same-length j l n in
         let end = same-end in
+        let room = h .below in
+        let bytes = part-same (le16At b s) q b (s + 2) (s + 2) (omega (arith, f .size)) (omega arith)
+        (λ i m. same (s + 2 + i) (omega arith) (omega arith)) in
         record {
           above = h .above;
           below = rw (size, end) (h .below);
-          text = λ i x. rw (same (s + 2 + i) (omega arith) (omega arith)) (h .text i (omega arith));
+          nonzero = λ i x. rw (same (s + 2 + i) (omega arith) (omega arith)) (h .nonzero i (omega arith));
           ending = rw size (same (s + 2 + le16At b s) (omega arith) (omega arith) ∙ h .ending);
+          text = rw (size, bytes) (h .text);
         }
 
     footer-kept : FooterHolds v q

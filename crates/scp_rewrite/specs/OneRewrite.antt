@@ -69,7 +69,7 @@ pub record ReadsAfter (v : Edition) (b q : List ℕ) (t k d : ℕ) (ws : List �
 -- W-7, V-6: a rewrite is refused by what refuses the question for its revolution, else by its words, else as shared, and by nothing more, all by
 -- the edition v that it names; a refused one leaves the bytes, and an accepted one sets its own and no others.
 pub record RewriteDoes (v : Edition) (b : List ℕ) (t k d : ℕ) (ws : List ℕ) : Type 0 where
-  -- 1 to 11, then 13, 14: with the number and position of the question
+  -- 1 to 11 and 19, then 13, 14: with the number and position of the question
   pub earlier : revolutionQuestion v b t k ≢ none → rewriteFault v b t k ws ≡ revolutionQuestion v b t k
   -- then 17, if the words are bad
   pub words :

@@ -22,6 +22,6 @@ unfoldable pub wordsThenShared : Edition → List ℕ → ℕ → ℕ → ℕ �
 wordsThenShared v b e t k n =
     refuseIf (badWords (countAt b e k) n) (refusal 17 0) (refuseIf (shared v b (standAt b e k) t k) (refusal 18 0) none)
 
--- W-7: what refuses the rewrite: 1 to 11, 13, 14, 17, 18.
+-- W-7: what refuses the rewrite: 1 to 11, 19, 13, 14, 17, 18.
 unfoldable pub rewriteFault : Edition → List ℕ → ℕ → ℕ → List ℕ → Refusal
 rewriteFault v b t k ws = revolutionThen v b t k (wordsThenShared v b (trackEntry b t) t k (length ws))

@@ -330,7 +330,7 @@ fn words_fault(image: &[u8], edition: Edition, t: u32, k: u32, words: u32, n: us
     refusals::pass()
 }
 
-// What refuses the rewrite: the first of refusals 1 to 11, 13, 14, 17 and 18, or number 0 (W-7).
+// What refuses the rewrite: the first of refusals 1 to 11, 19, 13, 14, 17 and 18, or number 0 (W-7).
 pub fn rewrite_fault(
     image: &[u8],
     edition: Edition,

@@ -2,7 +2,7 @@
 -- of an image that opens is refused by 13 or 14 alone.
 use Prim.Native.Nat.{ℕ, _*_, _<_, _≤_}
 use mathlib.Core.Path.{_≡_, refl, sym, ap, _∙_}
-use mathlib.Core.Logic.{_≢_}
+use mathlib.Core.Logic.{_≢_, inl, inr, ⊎-elim}
 use mathlib.Core.List.{List}
 use mathlib.Core.Bool.{Bool, true, false, cond}
 use native.Mathlib.Omega.{arith}
@@ -13,7 +13,7 @@ use Rattle.refusals.specs.declared.Refusal.{Refusal}
 use Rattle.refusals.specs.Refusals.{none, refusal, passes, refuseIf, firstOf}
 use Rattle.refusals.specs.Refusals as refusals
 use Rattle.refusals.proofs.Chain.{first-next}
-use Rattle.refusals.proofs.Finding.{both-clear, from-clear, holds-if}
+use Rattle.refusals.proofs.Finding.{both-clear, from-clear, holds-if, holds-first}
 use Rattle.copies.proofs.Parts.{part-length}
 use Rattle.scp_fields.specs.declared.Edition.{Edition}
 use Rattle.scp_fields.specs.Editions.{slots}
@@ -32,14 +32,27 @@ use Rattle.scp_lookup.proofs.Asking.{then-open, opens-then}
 use Rattle.scp_lookup.proofs.FoundLaws.{then-first}
 use Rattle.scp.specs.Answers.{Answer, refused, numbers, bytes, unless, trackValues, trackAnswer, revolutionValues, revolutionAnswer, fluxStart, fluxPart}
 use Rattle.scp.proofs.Answering.{unless-refused}
-use Rattle.scp_theorems.proofs.Tracks.{open-most, counted}
+use Rattle.scp_theorems.proofs.Numbers.{Numbered, header-number, footer-number, track-number, open-number}
+use Rattle.scp_theorems.proofs.Editions.{other}
+use Rattle.scp_theorems.proofs.Tracks.{counted}
 use Rattle.scp_direct.proofs.DirectLaws.{clear-track, direct-is-found, direct-within}
 use Rattle.scp_direct.specs.Direct.{directTrackQuestion, directRevolutionQuestion, directFound, directTrack, directRevolution, directPart}
-use Rattle.scp_theorems.specs.Direct.{SameAnswers, Agrees, RefusedToo, Sound, RefusesSoundly, DirectFluxIsCounted}
+use Rattle.scp_theorems.specs.Direct.{SameAnswers, Agrees, OfOpening, RefusedToo, Sound, RefusesSoundly, DirectNeverFooter, DirectFluxIsCounted}
+use Rattle.scp_theorems.specs.Theorems.{NotFooter}
 
--- an image that does not open is refused by one of 1 to 11
-open-one : (v : Edition) (b : List ℕ) → (openFault v b .number ≡ 0 → ⊥) → (1 ≤ openFault v b .number) × (openFault v b .number ≤ 11)
-open-one v b n = let most = open-most v b in (omega arith, omega arith)
+-- an image that does not open is refused by one of 1 to 11 and 19
+abbrev Opened : ℕ → Type 0
+Opened n = (n ≡ 0 → ⊥) → OfOpening n
+
+first : {n : ℕ} → n ≤ 11 → Opened n
+first h n = inl (omega arith, h)
+
+open-one : (v : Edition) (b : List ℕ) → Opened (openFault v b .number)
+open-one v b =
+    open-number Opened v b (first (omega arith)) (first (omega arith)) (first (omega arith)) (first (omega arith)) (first (omega arith))
+    (first (omega arith)) (first (omega arith))
+    (footer-number Opened v b (first (omega arith)) (first (omega arith)) (first (omega arith)) (λ n. inr refl))
+    (first (omega arith)) (first (omega arith)) (first (omega arith))
 
 -- ---- an image that opens
 
@@ -93,33 +106,33 @@ module _ (v : Edition) (b : List ℕ) (opens : openFault v b ≡ none) where
         start = λ t k. ap startOf (same-found t k);
       }
 
-  -- the number of a refusal is not one of 1 to 11
+  -- the number of a refusal is not one of 1 to 11 and 19
   abbrev Later : Refusal → Type 0
-  Later f = 1 ≤ f .number → f .number ≤ 11 → ⊥
+  Later f = OfOpening (f .number) → ⊥
 
-  late : (n : ℕ) → 12 ≤ n → Later (refusal n 0)
-  late n h a z = omega arith
+  late : (n : ℕ) → 12 ≤ n → n ≤ 18 → Later (refusal n 0)
+  late n h k = ⊎-elim (λ o. omega (arith, o .1)) (λ o. omega arith)
 
   late-none : Later none
-  late-none a z = omega arith
+  late-none = ⊎-elim (λ o. omega (arith, o .0)) (λ o. omega arith)
 
   late-then : (t : ℕ) (rest : Refusal) → Later rest → Later (trackThen v b t rest)
   late-then t rest h =
       rw (sym (opens-then v b t rest number))
-      (holds-if Later (leb (slots v) t) (refusal 13 0) _ (late 13 (omega arith))
-      (holds-if Later (eqb (trackEntry b t) 0) (refusal 13 0) rest (late 13 (omega arith)) h))
+      (holds-if Later (leb (slots v) t) (refusal 13 0) _ (late 13 (omega arith) (omega arith))
+      (holds-if Later (eqb (trackEntry b t) 0) (refusal 13 0) rest (late 13 (omega arith) (omega arith)) h))
 
   late-track : (t : ℕ) → Later (trackQuestion v b t)
   late-track t = late-then t none late-none
 
   late-revolution : (t k : ℕ) → Later (revolutionQuestion v b t k)
   late-revolution t k =
-      late-then t _ (holds-if Later (leb (revolutions b) k) (refusal 14 0) none (late 14 (omega arith)) late-none)
+      late-then t _ (holds-if Later (leb (revolutions b) k) (refusal 14 0) none (late 14 (omega arith) (omega arith)) late-none)
 
 pub agrees : Agrees
 agrees = same-answers
 
--- ---- a refusal by 1 to 11
+-- ---- a refusal by 1 to 11 and 19
 
 -- an answer that is a refusal has the number of what refuses
 told-number : (q : Refusal) (a : Answer) (n p : ℕ) → (a ≡ refused n p → ⊥) → unless q a ≡ refused n p → q .number ≡ n
@@ -129,16 +142,17 @@ told-number q a n p other e = by (passes q) e
     by true e = absurd (other e)
     by false e = cc
 
-module _ (v : Edition) (b : List ℕ) (n p : ℕ) (least : 1 ≤ n) (most : n ≤ 11) where
-  -- where the question is refused by nothing of 1 to 11 once the image opens, the image does not open
-  closed : (q : Refusal) (a : Answer) → (a ≡ refused n p → ⊥) → unless q a ≡ refused n p → (1 ≤ q .number → q .number ≤ 11 → ⊥) → ⊥
-  closed q a other e h = let same = told-number q a n p other e in h (omega arith) (omega arith)
+-- an answer with values is none
+no-numbers : (n p : ℕ) (vs : List ℕ) → numbers vs ≡ refused n p → ⊥
+no-numbers n p vs e = let z : _≡_ {A = ℕ} 0 1 = cc in absurd (omega arith)
 
-  no-numbers : (vs : List ℕ) → numbers vs ≡ refused n p → ⊥
-  no-numbers vs e = let z : _≡_ {A = ℕ} 0 1 = cc in absurd (omega arith)
+no-bytes : (n p s : ℕ) (bs : List ℕ) → bytes s bs ≡ refused n p → ⊥
+no-bytes n p s bs e = let z : _≡_ {A = ℕ} 0 1 = cc in absurd (omega arith)
 
-  no-bytes : (s : ℕ) (bs : List ℕ) → bytes s bs ≡ refused n p → ⊥
-  no-bytes s bs e = let z : _≡_ {A = ℕ} 0 1 = cc in absurd (omega arith)
+module _ (v : Edition) (b : List ℕ) (n p : ℕ) (one : OfOpening n) where
+  -- where the question is refused by nothing of 1 to 11 and 19 once the image opens, the image does not open
+  closed : (q : Refusal) (a : Answer) → (a ≡ refused n p → ⊥) → unless q a ≡ refused n p → (OfOpening (q .number) → ⊥) → ⊥
+  closed q a other e h = h (rw (told-number q a n p other e) one)
 
   -- then the full call is refused by opening
   too : (t : ℕ) (rest : Refusal) (a : Answer) → openFault v b ≢ none → RefusedToo v b (unless (trackThen v b t rest) a)
@@ -152,17 +166,43 @@ module _ (v : Edition) (b : List ℕ) (n p : ℕ) (least : 1 ≤ n) (most : n �
       record {
         track = λ t e.
             too t none _ (λ opens.
-            closed (trackQuestion v b t) _ (no-numbers _) (sym (same-answers v b opens .track t) ∙ e) (late-track v b opens t));
+            closed (trackQuestion v b t) _ (no-numbers n p _) (sym (same-answers v b opens .track t) ∙ e) (late-track v b opens t));
         revolution = λ t k e.
             too t _ _ (λ opens.
-            closed (revolutionQuestion v b t k) _ (no-numbers _) (sym (same-answers v b opens .revolution t k) ∙ e) (late-revolution v b opens t k));
+            closed (revolutionQuestion v b t k) _ (no-numbers n p _) (sym (same-answers v b opens .revolution t k) ∙ e) (late-revolution v b opens t k));
         flux = λ t k e.
             too t _ _ (λ opens.
-            closed (revolutionQuestion v b t k) _ (no-bytes _ _) (sym (same-answers v b opens .flux t k) ∙ e) (late-revolution v b opens t k));
+            closed (revolutionQuestion v b t k) _ (no-bytes n p _ _) (sym (same-answers v b opens .flux t k) ∙ e) (late-revolution v b opens t k));
       }
 
 pub refuses-soundly : RefusesSoundly
 refuses-soundly = sound
+
+-- ---- no number of the footer
+
+not-footer-track : (v : Edition) (b : List ℕ) (t : ℕ) → NotFooter (directTrackQuestion v b t .number)
+unfolding directTrackQuestion
+not-footer-track v b t =
+    holds-first (Numbered NotFooter) (headerFault v b) _
+    (header-number NotFooter v b (other 0 refl) (other 1 refl) (other 2 refl) (other 3 refl) (other 4 refl) (other 5 refl) (other 6 refl))
+    (holds-if (Numbered NotFooter) _ _ _ (other 13 refl)
+    (holds-if (Numbered NotFooter) _ _ _ (other 13 refl)
+    (track-number NotFooter v b (other 0 refl) (other 9 refl) (other 10 refl) (other 11 refl) t)))
+
+not-footer-revolution : (v : Edition) (b : List ℕ) (t k : ℕ) → NotFooter (directRevolutionQuestion v b t k .number)
+unfolding directRevolutionQuestion
+not-footer-revolution v b t k =
+    holds-first (Numbered NotFooter) (directTrackQuestion v b t) _ (not-footer-track v b t)
+    (holds-if (Numbered NotFooter) (leb (revolutions b) k) (refusal 14 0) none (other 14 refl) (other 0 refl))
+
+pub direct-never-footer : DirectNeverFooter
+unfolding directTrack directRevolution
+direct-never-footer v b n p =
+    record {
+      track = λ t e. rw (told-number (directTrackQuestion v b t) _ n p (no-numbers n p _) e) at (not-footer-track v b t);
+      revolution = λ t k e. rw (told-number (directRevolutionQuestion v b t k) _ n p (no-numbers n p _) e) at (not-footer-revolution v b t k);
+      flux = λ t k e. rw (told-number (directRevolutionQuestion v b t k) _ n p (no-bytes n p _ _) e) at (not-footer-revolution v b t k);
+    }
 
 -- ---- their flux
 

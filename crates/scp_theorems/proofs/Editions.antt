@@ -2,12 +2,12 @@
 use Prim.Native.Nat.{ℕ}
 use mathlib.Core.Path.{_≡_, refl}
 use mathlib.Core.List.{List}
-use mathlib.Core.Bool.{false}
+use mathlib.Core.Bool.{false, _||_}
 use native.Mathlib.Omega.{arith}
 use lib.Dec.{eqb}
 use borrow.Author.Tests.{eqb-false}
 use Rattle.refusals.specs.Refusals.{none, refuseIf}
-use Rattle.refusals.proofs.Finding.{holds-if, holds-first}
+use Rattle.refusals.proofs.Finding.{neither, holds-if, holds-first}
 use Rattle.scp_fields.specs.declared.Edition.the-variants.{V1_4}
 use Rattle.scp_fields.specs.Editions.{slots, footers}
 use Rattle.scp_fields.specs.Header.{footerBit}
@@ -15,15 +15,19 @@ use Rattle.scp_footer.specs.Footer.{footerFault}
 use Rattle.scp_open.specs.Opening.{openFault}
 use Rattle.scp.specs.Validating.{validateFault}
 use Rattle.scp.specs.Answers.{footerAnswer}
-use Rattle.scp_theorems.specs.Theorems.{EditionNumbers, Neither, NeverFooter}
-use Rattle.scp_theorems.proofs.Numbers.{Numbered, open-number, asked-number}
+use Rattle.scp_theorems.specs.Theorems.{EditionNumbers, NotFooter, NeverFooter}
+use Rattle.scp_theorems.proofs.Numbers.{Numbered, open-number, track-asked, asked-number}
 
 pub edition-numbers : EditionNumbers
 unfolding slots
 edition-numbers = record { old = (refl, refl, refl); new = (refl, refl, refl) }
 
-other : (m : ℕ) → eqb m 7 ≡ false → eqb m 8 ≡ false → Neither m
-other m h k = (eqb-false m 7 h, eqb-false m 8 k)
+-- any other number
+pub other : (m : ℕ) → eqb m 7 || (eqb m 8 || eqb m 19) ≡ false → NotFooter m
+other m h =
+    let first = neither (eqb m 7) _ h in
+    let second = neither (eqb m 8) _ (first .1) in
+    (eqb-false m 7 (first .0), eqb-false m 8 (second .0), eqb-false m 19 (second .1))
 
 module _ (b : List ℕ) where
   bit : footerBit V1_4 b ≡ 0
@@ -34,17 +38,17 @@ module _ (b : List ℕ) where
   unfolding footerFault refuseIf
   no-footer-fault = simp bit
 
-  opening : Neither (openFault V1_4 b .number)
+  opening : NotFooter (openFault V1_4 b .number)
   opening =
-      let foot : Neither (footerFault V1_4 b .number) = rw no-footer-fault (other 0 refl refl) in
-      open-number Neither V1_4 b (other 0 refl refl) (other 1 refl refl) (other 2 refl refl) (other 3 refl refl) (other 4 refl refl)
-      (other 5 refl refl) (other 6 refl refl) foot (other 9 refl refl) (other 10 refl refl) (other 11 refl refl)
+      let foot : NotFooter (footerFault V1_4 b .number) = rw no-footer-fault (other 0 refl) in
+      open-number NotFooter V1_4 b (other 0 refl) (other 1 refl) (other 2 refl) (other 3 refl) (other 4 refl)
+      (other 5 refl) (other 6 refl) foot (other 9 refl) (other 10 refl) (other 11 refl)
 
-  validating : Neither (validateFault V1_4 b .number)
+  validating : NotFooter (validateFault V1_4 b .number)
   unfolding validateFault
   validating =
-      holds-first (Numbered Neither) (openFault V1_4 b) _ opening
-      (holds-if (Numbered Neither) _ _ _ (other 12 refl refl) (other 0 refl refl))
+      holds-first (Numbered NotFooter) (openFault V1_4 b) _ opening
+      (holds-if (Numbered NotFooter) _ _ _ (other 12 refl) (other 0 refl))
 
 pub never-footer : NeverFooter
 unfolding footerAnswer
@@ -54,6 +58,7 @@ never-footer b =
       end = simp (bit b) (omega arith);
       opening = opening b;
       validating = validating b;
-      asking = asked-number Neither V1_4 b (opening b) (other 13 refl refl) (other 14 refl refl);
+      track = track-asked NotFooter V1_4 b (opening b) (other 13 refl);
+      revolution = asked-number NotFooter V1_4 b (opening b) (other 13 refl) (other 14 refl);
       answer = λ e. simp (e, bit b);
     }

@@ -1,9 +1,9 @@
 -- A track number is its cylinder and its head. The flux of a revolution lies in the image, so that the part handed out is as long as its
--- count says, even and within the limit: no reading of it is refused with 17. What refuses the revolution has a number up to 14. Its closing
+-- count says, even and within the limit: no reading of it is refused with 17. What refuses the revolution has a number up to 14, or 19. Its closing
 -- words are read as its intervals are.
 use Prim.Native.Nat.{ℕ, _*_, _%_, _<_, _≤_, min}
 use mathlib.Core.Path.{_≡_, refl, sym, ap, _∙_}
-use mathlib.Core.Logic.{_↔_, _⊎_, ⊎-elim, _≢_}
+use mathlib.Core.Logic.{_↔_, _⊎_, inl, inr, ⊎-elim, _≢_}
 use mathlib.Core.List.{List, [], _∷_}
 use mathlib.Core.Bool.{Bool, true, false, cond}
 use native.Mathlib.Omega.{arith}
@@ -11,7 +11,6 @@ use lib.ListN.{length}
 use borrow.Author.Tests.{eqb-true, ne-eqb, le-ltb}
 use Rattle.refusals.specs.declared.Refusal.{Refusal}
 use Rattle.refusals.specs.Refusals.{none, passes}
-use Rattle.refusals.proofs.Finding.{holds-if, holds-from}
 use Rattle.flux.proofs.AnswerLaws.{places-only}
 use Rattle.flux_theorems.proofs.Closing.{two-lists}
 use Rattle.flux.specs.Coding.{wordsOf, badFluxSize, fluxLimit}
@@ -20,11 +19,8 @@ use Rattle.flux.specs.Answers.{placesRefused, wordsRefused, Filling, refuses, f
 use Rattle.copies.proofs.Parts.{part-length}
 use Rattle.scp_fields.specs.declared.Edition.{Edition}
 use Rattle.scp_fields.specs.Header.{trackEntry}
-use Rattle.scp_fields.specs.Footer.{stringSlots}
-use Rattle.scp_footer.specs.Footer.{stringFaultAt, stringFault, footerFault}
 use Rattle.scp_tracks.specs.Tracks.{countAt}
 use Rattle.scp_tracks.specs.declared.RevolutionData.{RevolutionData}
-use Rattle.scp_open.specs.Opening.{openFault}
 use Rattle.scp_open.proofs.Opens.{opens}
 use Rattle.scp_lookup.specs.Questions.{revolutionQuestion}
 use Rattle.scp_lookup.specs.Lookups.{foundRevolution, fluxOf, partOf}
@@ -32,7 +28,7 @@ use Rattle.scp_lookup.specs.declared.RevolutionAnswer.{RevolutionAnswer}
 use Rattle.scp_lookup.specs.declared.RevolutionAnswer.the-variants as revolution-answer
 use Rattle.scp_lookup.proofs.FoundLaws.{FoundData, revolution-there, revolution-found, found-data, found-refused, flux-within}
 use Rattle.scp.specs.Answers.{refused, numbers, unless, revolutionValues, revolutionAnswer, fluxPart, readFrom}
-use Rattle.scp_theorems.proofs.Numbers.{open-number, asked-number}
+use Rattle.scp_theorems.proofs.Numbers.{footer-number, open-number, asked-number}
 use Rattle.scp_theorems.specs.Theorems.{TrackNumber, FluxIsCounted, NeverWords, RevolutionTwoLists}
 
 pub track-number : (t : ℕ) → TrackNumber t
@@ -65,33 +61,26 @@ flux-is-counted v b t k duration words offset e =
     let held = counted (revolutionQuestion v b t k) b t k duration words offset e in
     handed-length v b t k (held .0) ∙ ap (λ (n : ℕ). 2 * n) (held .1)
 
--- ---- what refuses an image has a number up to 11, and what refuses a revolution one up to 14
+-- ---- what refuses a revolution has a number up to 14, or 19
 
-abbrev Most : ℕ → Refusal → Type 0
-Most m f = f .number ≤ m
+abbrev Asked : ℕ → Type 0
+Asked n = (n ≤ 14) ⊎ (n ≡ 19)
 
-module _ (v : Edition) (b : List ℕ) where
-  string-most : (j : ℕ) → Most 8 (stringFault v b j)
-  unfolding stringFaultAt
-  string-most j = holds-if (Most 8) _ _ _ (omega arith) (holds-if (Most 8) _ _ _ (omega arith) (omega arith))
+low : {n : ℕ} → n ≤ 14 → Asked n
+low h = inl h
 
-  footer-most : Most 8 (footerFault v b)
-  unfolding footerFault
-  footer-most =
-      holds-if (Most 8) _ _ _ (omega arith)
-      (holds-if (Most 8) _ _ _ (omega arith)
-      (holds-from (Most 8) (omega arith) (stringFault v b) 0 stringSlots (λ j a z. string-most j)))
+-- it is none of those between
+between : {n m : ℕ} → Asked n → 15 ≤ m → m ≤ 18 → n ≡ m → ⊥
+between (inl h) l k e = omega arith
+between (inr h) l k e = omega arith
 
-  pub open-most : Most 11 (openFault v b)
-  open-most =
-      let foot = footer-most in
-      open-number (λ n. n ≤ 11) v b (omega arith) (omega arith) (omega arith) (omega arith) (omega arith) (omega arith) (omega arith)
-      (omega arith) (omega arith) (omega arith) (omega arith)
-
-  revolution-most : (t k : ℕ) → Most 14 (revolutionQuestion v b t k)
-  revolution-most t k =
-      let opened = open-most in
-      asked-number (λ n. n ≤ 14) v b (omega arith) (omega arith) (omega arith) t k none (omega arith)
+revolution-asked : (v : Edition) (b : List ℕ) (t k : ℕ) → Asked (revolutionQuestion v b t k .number)
+revolution-asked v b t k =
+    let foot = footer-number Asked v b (low (omega arith)) (low (omega arith)) (low (omega arith)) (inr refl) in
+    let opened =
+    open-number Asked v b (low (omega arith)) (low (omega arith)) (low (omega arith)) (low (omega arith)) (low (omega arith)) (low (omega arith))
+    (low (omega arith)) foot (low (omega arith)) (low (omega arith)) (low (omega arith)) in
+    asked-number Asked v b opened (low (omega arith)) (low (omega arith)) t k none (low (omega arith))
 
 -- ---- reading its intervals is never refused with 17
 
@@ -123,10 +112,9 @@ module _ (v : Edition) (b : List ℕ) (t k places p : ℕ) where
   never : (r : RevolutionAnswer) → r ≡ foundRevolution v b t k → readFrom reading b places r ≢ refuses wordsRefused p
   never (revolution-answer.Found d) h = read-whole (found-data v b t k h)
   never (revolution-answer.Refused f) h = λ e.
-      let most = revolution-most v b t k in
       let same : f .number ≡ 17 = ap number-of e in
       let number = ap (λ (x : Refusal). x .number) (found-refused v b t k h .refuses) in
-      omega arith
+      between (revolution-asked v b t k) (omega arith) (omega arith) (sym number ∙ same)
 
 pub never-words : NeverWords
 never-words v b t k places p = never v b t k places p (foundRevolution v b t k) refl
@@ -149,12 +137,11 @@ module _ (v : Edition) (b : List ℕ) (t k : ℕ) (times closings : List ℕ) wh
       let both = two-lists (fluxOf b d) times closings in
       record { plain = both .plain; short = both .short (good-found v b t k (found-data v b t k h)); together = both .together }
   lists-of (revolution-answer.Refused f) h =
-      let most = revolution-most v b t k in
       let number = ap (λ (x : Refusal). x .number) (found-refused v b t k h .refuses) in
       record {
         plain = λ _. refl;
         short = (
-          λ e. let same : f .number ≡ 15 = ap number-of e in absurd (omega arith),
+          λ e. let same : f .number ≡ 15 = ap number-of e in absurd (between (revolution-asked v b t k) (omega arith) (omega arith) (sym number ∙ same)),
           ⊎-elim (λ l. absurd (omega arith)) (λ l. absurd (omega arith)),
         );
         together = refl;

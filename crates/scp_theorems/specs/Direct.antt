@@ -1,7 +1,7 @@
 -- What the direct calls are proved to have in common with the full ones, and where they look, by any edition. The proofs stand in proofs/.
 use Prim.Native.Nat.{ℕ, _+_, _*_, _<_, _≤_}
 use mathlib.Core.Path.{_≡_}
-use mathlib.Core.Logic.{_≢_}
+use mathlib.Core.Logic.{_≢_, _⊎_}
 use mathlib.Core.List.{List, [], _∷_}
 use lib.ListN.{length}
 use Rattle.octets.specs.Numbers.{byteAt}
@@ -13,6 +13,7 @@ use Rattle.scp_tracks.specs.Tracks.{headerSize}
 use Rattle.scp_open.specs.Opening.{openFault}
 use Rattle.scp.specs.Answers.{Answer, refused, numbers, trackAnswer, revolutionAnswer, fluxAnswer, fluxPart, fluxStart}
 use Rattle.scp_direct.specs.Direct.{directRevolutionQuestion, directTrack, directRevolution, directFlux, directPart, directStart}
+use Rattle.scp_theorems.specs.Theorems.{NotFooter}
 
 -- ---- beside the full calls
 
@@ -24,14 +25,18 @@ pub record SameAnswers (v : Edition) (b : List ℕ) : Type 0 where
   pub part : (t k : ℕ) → directPart v b t k ≡ fluxPart v b t k
   pub start : (t k : ℕ) → directStart v b t k ≡ fluxStart v b t k
 
--- DI-6: so it is where the whole image passes 1 to 11.
+-- DI-6: so it is where the whole image passes 1 to 11 and 19.
 abbrev pub Agrees : Type 0
 Agrees = (v : Edition) (b : List ℕ) → openFault v b ≡ none → SameAnswers v b
+
+-- DI-7, RO-3, RO-4: a number that opening refuses with: one of 1 to 11, or 19.
+abbrev pub OfOpening : ℕ → Type 0
+OfOpening n = ((1 ≤ n) × (n ≤ 11)) ⊎ (n ≡ 19)
 
 -- DI-7: the image does not open, and the full call answers with what refuses it, perhaps another number.
 pub record RefusedToo (v : Edition) (b : List ℕ) (full : Answer) : Type 0 where
   pub opening : openFault v b ≢ none
-  pub number : (1 ≤ openFault v b .number) × (openFault v b .number ≤ 11)
+  pub number : OfOpening (openFault v b .number)
   pub answer : full ≡ refused (openFault v b .number) (openFault v b .position)
 
 -- DI-7: so it is where a direct call refuses with number n at position p.
@@ -40,9 +45,19 @@ pub record Sound (v : Edition) (b : List ℕ) (n p : ℕ) : Type 0 where
   pub revolution : (t k : ℕ) → directRevolution v b t k ≡ refused n p → RefusedToo v b (revolutionAnswer v b t k)
   pub flux : (t k : ℕ) → directFlux v b t k ≡ refused n p → RefusedToo v b (fluxAnswer v b t k)
 
--- DI-7: and the number is one of 1 to 11.
+-- DI-7: and the number is one of 1 to 11 and 19.
 abbrev pub RefusesSoundly : Type 0
-RefusesSoundly = (v : Edition) (b : List ℕ) (n p : ℕ) → 1 ≤ n → n ≤ 11 → Sound v b n p
+RefusesSoundly = (v : Edition) (b : List ℕ) (n p : ℕ) → OfOpening n → Sound v b n p
+
+-- DI-7: where a direct call refuses with number n, that is not 7, 8 or 19: the footer and its strings are not tested.
+pub record NotOfFooter (v : Edition) (b : List ℕ) (n p : ℕ) : Type 0 where
+  pub track : (t : ℕ) → directTrack v b t ≡ refused n p → NotFooter n
+  pub revolution : (t k : ℕ) → directRevolution v b t k ≡ refused n p → NotFooter n
+  pub flux : (t k : ℕ) → directFlux v b t k ≡ refused n p → NotFooter n
+
+-- DI-7: so it is of every image by any edition.
+abbrev pub DirectNeverFooter : Type 0
+DirectNeverFooter = (v : Edition) (b : List ℕ) (n p : ℕ) → NotOfFooter v b n p
 
 -- ---- their flux
 

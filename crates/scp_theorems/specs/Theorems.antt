@@ -20,7 +20,7 @@ use Rattle.scp_fields.specs.Editions.{slots, lastTrack, tableEnd}
 use Rattle.scp_fields.specs.Header.{revolutions, readWrite, hasFooter, storedSum, trueSum, dataEnd}
 use Rattle.scp_tracks.specs.Tracks.{cylinderOf, headOf, durationAt}
 use Rattle.scp_open.specs.Opening.{openFault}
-use Rattle.scp_lookup.specs.Questions.{revolutionThen}
+use Rattle.scp_lookup.specs.Questions.{trackThen, revolutionThen}
 use Rattle.scp_open.specs.Validity.{Opens}
 use Rattle.scp_speed.specs.Speeds.{rpmOf, speedOf, longest, shortest, speedsOf}
 use Rattle.scp_speed.specs.declared.Speed.the-variants.{Rpm}
@@ -36,18 +36,20 @@ pub record EditionNumbers : Type 0 where
   pub old : (slots V1_4 ≡ 166) × (lastTrack V1_4 ≡ 165) × (tableEnd V1_4 ≡ 680)
   pub new : (slots V1_6 ≡ 168) × (lastTrack V1_6 ≡ 167) × (tableEnd V1_6 ≡ 688)
 
--- A number that is neither 7 nor 8 (V-3).
-abbrev pub Neither : ℕ → Type 0
-Neither n = (n ≢ 7) × (n ≢ 8)
+-- A number that is none of the footer's: not 7, 8 or 19 (V-3).
+abbrev pub NotFooter : ℕ → Type 0
+NotFooter n = (n ≢ 7) × (n ≢ 8) × (n ≢ 19)
 
--- By 1.4 an image has no footer, whatever its FLAGS say: its tracks and flux may lie up to its end, no call gives 7 or 8, neither opening nor
--- validating nor one on a revolution, unless what comes after that does, and the question for its footer answers that there is none (V-3).
+-- By 1.4 an image has no footer, whatever its FLAGS say: its tracks and flux may lie up to its end, no call gives 7, 8 or 19, neither opening nor
+-- validating nor one on a track or a revolution, unless what comes after that does, and the question for its footer answers that there is none
+-- (V-3).
 pub record NoFooter (b : List ℕ) : Type 0 where
   pub flag : hasFooter V1_4 b ≡ false
   pub end : dataEnd V1_4 b ≡ length b
-  pub opening : Neither (openFault V1_4 b .number)
-  pub validating : Neither (validateFault V1_4 b .number)
-  pub asking : (t k : ℕ) (rest : Refusal) → Neither (rest .number) → Neither (revolutionThen V1_4 b t k rest .number)
+  pub opening : NotFooter (openFault V1_4 b .number)
+  pub validating : NotFooter (validateFault V1_4 b .number)
+  pub track : (t : ℕ) (rest : Refusal) → NotFooter (rest .number) → NotFooter (trackThen V1_4 b t rest .number)
+  pub revolution : (t k : ℕ) (rest : Refusal) → NotFooter (rest .number) → NotFooter (revolutionThen V1_4 b t k rest .number)
   pub answer : openFault V1_4 b ≡ none → footerAnswer V1_4 b ≡ answers.none
 
 -- So it is of every image (V-3).

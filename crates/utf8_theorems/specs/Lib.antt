@@ -1,0 +1,3 @@
+pub mod Encoding
+pub mod Theorems
+pub mod Examples
