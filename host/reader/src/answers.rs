@@ -1,6 +1,6 @@
 //! What the reader answers: a refusal, or the fields of what was asked for.
 
-/// The rules, Numbers of refusal: the number 1 to 18, and the position (0 where none is named).
+/// The rules, Numbers of refusal: the number 1 to 19, and the position (0 where none is named).
 #[derive(Clone, Copy, Debug, PartialEq, Eq)]
 pub struct Refusal {
     pub number: u32,

@@ -1,10 +1,11 @@
-//! Parsing of a whole image, or of one track alone, into owned structures, with the refusals 1 to 11, 13 and 14.
+//! Parsing of a whole image, or of one track alone, into owned structures, with the refusals 1 to 11, 13, 14 and 19.
 
 use std::collections::BTreeMap;
 use std::ops::Range;
 
 use crate::answers::{refuse, refuse_at, Footer, Header, Refusal, Revolution};
 use crate::edition::Edition;
+use crate::text::valid_up_to;
 
 /// The rules, refusal 1: the greatest length; refusal 17 has the same bound.
 pub(crate) const GREATEST: u64 = 268_435_456;
@@ -12,7 +13,7 @@ pub(crate) const GREATEST: u64 = 268_435_456;
 /// The rules, Layout: the footer is the last 48 bytes.
 pub(crate) const FOOTER: u64 = 48;
 
-/// An image that none of 1 to 11 refuses, taken apart.
+/// An image that none of 1 to 11 and 19 refuses, taken apart.
 pub(crate) struct Image {
     pub(crate) edition: Edition,
     pub(crate) header: Header,
@@ -34,7 +35,7 @@ pub(crate) struct TrackData {
 }
 
 impl Image {
-    /// The rules, Numbers of refusal: 1 to 8, the lowest first, then the tracks from index 0 up.
+    /// The rules, Numbers of refusal: 1 to 7, the lowest first, then the strings with 8 and 19, then the tracks from index 0 up.
     pub(crate) fn parse(image: &[u8], edition: Edition) -> Result<Image, Refusal> {
         let header = parse_header(image, edition)?;
         let footer = parse_footer(image, edition, &header)?;
@@ -212,12 +213,16 @@ fn read_footer(last: &[u8]) -> Option<Footer> {
     })
 }
 
-/// The rules, refusal 8: the present strings; the first faulty one is the position.
+/// The rules, refusals 8 and 19: the present strings, each with 8, then 19, before the next; the first faulty one is the position.
 fn parse_strings(body: &[u8], edition: Edition, footer: &Footer) -> Result<Vec<Text>, Refusal> {
     let mut strings = Vec::new();
     for (index, &offset) in (0..).zip(&footer.offsets) {
         if offset != 0 {
-            strings.push(parse_string(body, edition, u64::from(offset)).ok_or(refuse_at(8, index))?);
+            let text = parse_string(body, edition, u64::from(offset)).ok_or(refuse_at(8, index))?;
+            if valid_up_to(&text.bytes) < text.bytes.len() {
+                return Err(refuse_at(19, index));
+            }
+            strings.push(text);
         }
     }
     Ok(strings)

@@ -4,7 +4,7 @@ use crate::answers::{refuse, Footer, Header, Refusal, Revolution, Track};
 use crate::edition::Edition;
 use crate::image::{stretch, true_sum, Image, TrackData};
 
-/// The rules, Numbers of refusal: judging uses 1 to 11, then 12.
+/// The rules, Numbers of refusal: judging uses 1 to 11 and 19, then 12.
 pub fn validate(image: &[u8], edition: Edition) -> Result<(), Refusal> {
     let parsed = Image::parse(image, edition)?;
     let due = if parsed.read_write() { 0 } else { true_sum(image) % (1 << 32) };
@@ -14,17 +14,17 @@ pub fn validate(image: &[u8], edition: Edition) -> Result<(), Refusal> {
     Ok(())
 }
 
-/// The question for the header; it uses 1 to 11.
+/// The question for the header; it uses 1 to 11 and 19.
 pub fn header(image: &[u8], edition: Edition) -> Result<Header, Refusal> {
     Ok(Image::parse(image, edition)?.header)
 }
 
-/// The question for the footer, or the plain fact that there is none; it uses 1 to 11.
+/// The question for the footer, or the plain fact that there is none; it uses 1 to 11 and 19.
 pub fn footer(image: &[u8], edition: Edition) -> Result<Option<Footer>, Refusal> {
     Ok(Image::parse(image, edition)?.footer)
 }
 
-/// The question for a track; it uses 1 to 11, then 13.
+/// The question for a track; it uses 1 to 11 and 19, then 13.
 pub fn track(image: &[u8], edition: Edition, track: u32) -> Result<Track, Refusal> {
     let parsed = Image::parse(image, edition)?;
     Ok(describe_track(track, parsed.track(track)?))
@@ -35,7 +35,7 @@ pub(crate) fn describe_track(track: u32, data: &TrackData) -> Track {
     Track { cylinder: track / 2, head: track % 2, place: data.place, revolutions: data.revolutions.len() as u32 }
 }
 
-/// The question for a revolution; it uses 1 to 11, then 13, then 14.
+/// The question for a revolution; it uses 1 to 11 and 19, then 13, then 14.
 pub fn revolution(image: &[u8], edition: Edition, track: u32, revolution: u32) -> Result<Revolution, Refusal> {
     Image::parse(image, edition)?.track(track)?.revolution(revolution)
 }

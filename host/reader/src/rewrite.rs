@@ -39,7 +39,7 @@ struct Target {
     present: Revolution,
 }
 
-/// The rules, Rewriting: 1 to 11, 13, 14, 17, 18; then duration, count, words and checksum.
+/// The rules, Rewriting: 1 to 11 and 19, then 13, 14, 17, 18; then duration, count, words and checksum.
 pub fn rewrite(image: &mut [u8], edition: Edition, track: u32, revolution: u32, duration: u32, words: &[u8]) -> Result<(), Refusal> {
     let parsed = Image::parse(image, edition)?;
     let target = find(&parsed, track, revolution)?;

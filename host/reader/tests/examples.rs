@@ -1,44 +1,14 @@
 //! The examples of the rules, and every refusal with its position; expected values by hand.
 
 mod common;
+mod footers;
 mod sample;
 
 use common::{put, put_revolution, refused, revolutions_of_track_0};
+use footers::{a_with_footer, all_refuse, footer_row};
 use sample::{a_with, image_a, old_a, replays, two_tracks, A_TRACK, NEW_FLUX};
 use scp_reader::Edition::{V1_4, V1_6};
 use scp_reader::*;
-
-/// Image A with FLAGS bit 5, these bytes after it, and a footer with these string offsets.
-fn a_with_footer(between: &[u8], offsets: [u32; 6]) -> Vec<u8> {
-    let mut image = a_with(8, &[0x21]);
-    image.extend(between);
-    for offset in offsets {
-        image.extend(offset.to_le_bytes());
-    }
-    image.extend([0xFF; 8]);
-    image.extend(1_000_000_000_000_i64.to_le_bytes());
-    image.extend([0x15, 0x13, 0x12, 0x16]);
-    image.extend(b"FPCS");
-    image
-}
-
-/// The judgement and all questions refuse alike, and the rewrite and the replay too.
-fn all_refuse(image: &[u8], edition: Edition, number: u32, position: u64) {
-    assert_eq!(validate(image, edition), refused(number, position));
-    assert_eq!(header(image, edition), refused(number, position));
-    assert_eq!(footer(image, edition), refused(number, position));
-    assert_eq!(track(image, edition, 168), refused(number, position));
-    assert_eq!(revolution(image, edition, 0, 9), refused(number, position));
-    assert_eq!(flux(image, edition, 0, 0), refused(number, position));
-    assert_eq!(speed(image, edition, 0, 0), refused(number, position));
-    assert_eq!(track_speed(image, edition, 0), refused(number, position));
-    let mut copy = image.to_vec();
-    assert_eq!(rewrite(&mut copy, edition, 0, 0, 1, &[1]), refused(number, position));
-    let named = if edition == V1_4 { 14 } else { 16 };
-    let calls = [0, 1, 2, 3, 4, 5, 6, 7, 8].map(|kind| [kind, 0, 0, 1, 0, 1, named]);
-    replays(&mut copy, &calls, &[1], &[&[u64::from(number), position][..]; 9]);
-    assert_eq!(copy, image);
-}
 
 #[test]
 fn image_a_is_sound_and_lists_as_in_the_rules() {
@@ -994,11 +964,6 @@ fn strings_and_footer_claim_nothing_under_1_4() {
     put(&mut expected, 0x0C, &906_u32.to_le_bytes());
     assert_eq!(image, expected);
     all_refuse(&image, V1_6, 7, 0);
-}
-
-/// The answer to the question for the footer of `a_with_footer`, with this offset of the serial.
-fn footer_row(serial: u64) -> Vec<u64> {
-    vec![0, 0, 1, 0, 0, serial, 0, 0, 0, u64::MAX, 1_000_000_000_000, 0x15, 0x13, 0x12, 0x16]
 }
 
 #[test]
