@@ -2,9 +2,9 @@
 //! table, that track's header and the records of its revolutions.
 //!
 //! Their refusals come in the order 1 to 6, 13, 9 to 11 of this track (11 of any of its revolutions), 14, 15. The footer, its strings and
-//! other tracks are not tested, so these calls may answer on an image that every other call refuses. Where the image passes 1 to 11 the
+//! other tracks are not tested, so these calls may answer on an image that every other call refuses. Where the image passes 1 to 11 and 19 the
 //! answer is that of the call of the same name in the crate itself; where one of 1 to 11 refuses a direct call, that call is refused, too,
-//! perhaps with another number.
+//! perhaps with another number, which may be 19.
 //!
 //! ```
 //! use scp::{direct, Edition, Reason};

@@ -1,7 +1,7 @@
 //! SuperCard Pro (SCP) floppy flux images, revisions 1.4 and 1.6, by the proved library.
 //!
 //! Every call on an image takes its bytes and the [`Edition`] that it is read by, and tests it anew; it answers for every image and every
-//! argument. A [`Refusal`] has one of 18 numbers and a position, and then every lent buffer holds what it held. Nothing here copies an image.
+//! argument. A [`Refusal`] has one of 19 numbers and a position, and then every lent buffer holds what it held. Nothing here copies an image.
 //!
 //! ```
 //! use scp::Edition;
@@ -53,7 +53,7 @@ pub const LONGEST_IMAGE: usize = 268_435_456;
 /// What a zero word adds to the interval that the next closing word ends, in ticks.
 pub const ZERO_WORD_TICKS: u64 = 65_536;
 
-/// Whether the image obeys the text: refusals 1 to 12.
+/// Whether the image obeys the text: refusals 1 to 12 and 19.
 ///
 /// ```
 /// use scp::{Edition, Reason};
@@ -103,7 +103,8 @@ pub fn footer(image: &[u8], edition: Edition) -> Result<Option<Footer>, Refusal>
     Ok(Footer::of_numbers(&out))
 }
 
-/// The bytes of the string at a file offset that the [`footer`] of the same image gave; nothing where no whole string is.
+/// The bytes of the string at a file offset that the [`footer`] of the same image gave; nothing where no whole string is. By revision 1.6
+/// they are well-formed UTF-8, so that [`text`] gives them, too.
 ///
 /// ```
 /// let image = [2, 0, b'h', b'i', 0];
@@ -117,6 +118,30 @@ pub fn string(image: &[u8], offset: u32) -> Option<&[u8]> {
     let rest = image.get(offset as usize..)?;
     let size = u16::from_le_bytes([*rest.first()?, *rest.get(1)?]);
     rest.get(2..2 + usize::from(size))
+}
+
+/// The text of the string at a file offset that the [`footer`] of the same image gave; nothing where no whole string is, or where its bytes
+/// are not well-formed UTF-8.
+///
+/// ```
+/// let image = [3, 0, b'4', 0xC2, 0xB5, 0];
+/// assert_eq!(scp::text(&[b"-", &image[..]].concat(), 1), Some("4\u{b5}"));
+/// ```
+pub fn text(image: &[u8], offset: u32) -> Option<&str> {
+    std::str::from_utf8(string(image, offset)?).ok()
+}
+
+/// How many bytes come before the place where the text stops being well-formed UTF-8, by the proved test of refusal 19: its length where
+/// all of it is.
+///
+/// ```
+/// assert_eq!(scp::valid_up_to("4 \u{b5}s".as_bytes()), 5);
+/// assert_eq!(scp::valid_up_to(b"4 \xB5s"), 2);
+/// ```
+pub fn valid_up_to(text: &[u8]) -> usize {
+    let mut out = [0];
+    Refusal::of_code(raw::valid_up_to(text, &mut out)).expect("a place is lent");
+    out[0] as usize
 }
 
 /// The numbers of the tracks that the image has, in order.

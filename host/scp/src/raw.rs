@@ -1,4 +1,4 @@
-//! The seventeen functions of the archive, as `include/scp.h` declares them: each returns 0, or a refusal's number + 256 x its position.
+//! The eighteen functions of the archive, as `include/scp.h` declares them: each returns 0, or a refusal's number + 256 x its position.
 //! An edition is a number: 14 is revision 1.4, every other one 1.6.
 //!
 //! This is the only module with `unsafe` code. Its functions are safe, since a slice's pointer and length are what the archive wants.
@@ -40,6 +40,7 @@ mod archive {
             out: *mut u8,
             places: usize,
         ) -> u64;
+        pub fn scp_valid_up_to(text: *const u8, size: usize, out: *mut u64, places: usize) -> u64;
         pub fn scp_step(flux: *const u8, size: usize, word: u64, out: *mut u64, places: usize) -> u64;
         pub fn scp_intervals(flux: *const u8, size: usize, times: *mut u64, count: usize, out: *mut u64, places: usize) -> u64;
         pub fn scp_closed_intervals(
@@ -76,7 +77,7 @@ mod archive {
     }
 }
 
-/// Refusals 1 to 12.
+/// Refusals 1 to 12 and 19.
 pub fn validate(image: &[u8], edition: u32) -> u64 {
     // SAFETY: pointer and length are those of a slice, lent for the call.
     unsafe { archive::scp_validate(image.as_ptr(), image.len(), edition) }
@@ -140,6 +141,12 @@ pub fn direct_revolution(image: &[u8], edition: u32, track: u32, revolution: u32
 pub fn direct_flux(image: &[u8], edition: u32, track: u32, revolution: u32, out: &mut [u8]) -> u64 {
     // SAFETY: as in `header`.
     unsafe { archive::scp_direct_flux(image.as_ptr(), image.len(), edition, track, revolution, out.as_mut_ptr(), out.len()) }
+}
+
+/// How many bytes come before the place where the text stops being well-formed UTF-8: 1 number.
+pub fn valid_up_to(text: &[u8], out: &mut [u64]) -> u64 {
+    // SAFETY: as in `header`.
+    unsafe { archive::scp_valid_up_to(text.as_ptr(), text.len(), out.as_mut_ptr(), out.len()) }
 }
 
 /// Interval (0: none), open ticks, next word, closing word (0 where there is no interval): 4 numbers.

@@ -3,7 +3,7 @@
 use crate::answers::STRING_NAMES;
 use std::fmt;
 
-/// Why a call is refused. The number of a reason is its discriminant, 1 to 18.
+/// Why a call is refused. The number of a reason is its discriminant, 1 to 19.
 #[derive(Clone, Copy, Debug, PartialEq, Eq, Hash)]
 #[repr(u8)]
 pub enum Reason {
@@ -43,11 +43,13 @@ pub enum Reason {
     Words,
     /// A byte claimed twice.
     Shared,
+    /// A string of the footer that is not well-formed UTF-8; the position is its number, 0 to 5. Never by revision 1.4.
+    Text,
 }
 
 impl Reason {
     /// All reasons, by number.
-    pub const ALL: [Reason; 18] = [
+    pub const ALL: [Reason; 19] = [
         Reason::Size,
         Reason::Sign,
         Reason::Width,
@@ -66,9 +68,10 @@ impl Reason {
         Reason::Time,
         Reason::Words,
         Reason::Shared,
+        Reason::Text,
     ];
 
-    /// The number of the reason, 1 to 18.
+    /// The number of the reason, 1 to 19.
     pub fn number(self) -> u8 {
         self as u8
     }
@@ -99,13 +102,14 @@ impl Reason {
             Reason::Time => "a time cannot be expressed: 0, a multiple of 65,536, or above 4,294,967,295",
             Reason::Words => "the flux has an odd number of bytes, is too long, or has more words than the revolution",
             Reason::Shared => "a byte that the rewrite stands on is claimed by something else too",
+            Reason::Text => "a string of the footer is not well-formed UTF-8",
         }
     }
 
     /// What the position of such a refusal counts, or nothing where it is always 0.
     pub fn position_counts(self) -> Option<&'static str> {
         match self {
-            Reason::String => Some("string"),
+            Reason::String | Reason::Text => Some("string"),
             Reason::Slot | Reason::Track | Reason::Flux => Some("track"),
             Reason::Time => Some("time"),
             _ => None,
@@ -135,7 +139,7 @@ impl Refusal {
         Refusal::of_pair(code % 256, code / 256)
     }
 
-    /// What a number and a position say: nothing for number 0. The archive gives no number above 18.
+    /// What a number and a position say: nothing for number 0. The archive gives no number above 19.
     pub(crate) fn of_pair(number: u64, position: u64) -> Result<(), Refusal> {
         match (number, Reason::of_number(number)) {
             (0, _) => Ok(()),
@@ -153,13 +157,15 @@ impl fmt::Display for Refusal {
     ///
     /// let refusal = Refusal { reason: Reason::String, position: 2 };
     /// assert!(refusal.to_string().ends_with("a string of the footer is misplaced or malformed (string 2, the serial)"));
+    /// let refusal = Refusal { reason: Reason::Text, position: 5 };
+    /// assert!(refusal.to_string().ends_with("a string of the footer is not well-formed UTF-8 (string 5, the comments)"));
     /// ```
     fn fmt(&self, f: &mut fmt::Formatter<'_>) -> fmt::Result {
         let (number, reason, position) = (self.reason.number(), self.reason, self.position);
         write!(f, "refused {number} ({reason:?}) at {position}: {}", reason.meaning())?;
         let string = STRING_NAMES.iter().zip(0..).find(|(_, place)| *place == position);
         match (reason.position_counts(), string) {
-            (Some(kind), Some((name, _))) if reason == Reason::String => write!(f, " ({kind} {position}, the {name})"),
+            (Some(kind @ "string"), Some((name, _))) => write!(f, " ({kind} {position}, the {name})"),
             (Some(kind), _) => write!(f, " ({kind} {position})"),
             (None, _) => Ok(()),
         }

@@ -24,7 +24,7 @@ impl Rules for Edition {
 
     /// The other edition, where the image is valid by that; not after a fault of the footer, which 1.4 just does not look at.
     fn hint(self, image: &[u8], refusal: Refusal) -> Option<String> {
-        let (other, footer) = (self.other(), matches!(refusal.reason, Reason::Footer | Reason::String));
+        let (other, footer) = (self.other(), matches!(refusal.reason, Reason::Footer | Reason::String | Reason::Text));
         let accepted = !footer && scp::validate(image, other).is_ok();
         accepted.then(|| format!("it is valid as revision {other}: try --edition {other}"))
     }

@@ -5,6 +5,7 @@ use std::fs::{self, File, Metadata, Permissions};
 use std::io::{self, Read};
 use std::path::Path;
 
+use crate::escapes::escaped;
 use crate::failure::Failure;
 use crate::stamp::Stamp;
 use crate::streams;
@@ -29,9 +30,9 @@ pub fn at_least(read: &[u8]) -> &'static str {
 
 /// A name as it can be shown on one line; what does not print, and bytes that are not UTF-8, are escaped.
 pub fn shown(name: impl AsRef<OsStr>) -> String {
-    let mut text = String::new();
-    for chunk in name.as_ref().as_encoded_bytes().utf8_chunks() {
-        for letter in chunk.valid().chars() {
+    escaped(name.as_ref().as_encoded_bytes(), |part| {
+        let mut text = String::new();
+        for letter in part.chars() {
             match letter {
                 '\u{200B}'..='\u{200F}' | '\u{2028}'..='\u{202E}' | '\u{2060}'..='\u{206F}' | '\u{FEFF}' => {
                     text.extend(letter.escape_unicode())
@@ -40,9 +41,8 @@ pub fn shown(name: impl AsRef<OsStr>) -> String {
                 _ => text.push(letter),
             }
         }
-        text.extend(chunk.invalid().iter().map(|byte| format!("\\x{byte:02X}")));
-    }
-    text
+        text
+    })
 }
 
 /// A file read whole.

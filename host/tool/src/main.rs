@@ -7,6 +7,7 @@ mod dates;
 mod destination;
 mod disk;
 mod editions;
+mod escapes;
 mod failure;
 mod faults;
 mod files;

@@ -5,6 +5,7 @@
 
 mod claims;
 mod faults;
+mod text;
 
 use scp::{Reason, Refusal, ZERO_WORD_TICKS};
 
@@ -102,10 +103,13 @@ mod tests {
     /// How many cases of the comparison are looked at.
     const CASES: u64 = 60_000;
 
+    /// How many numbers there are, with 0 for what is accepted.
+    const NUMBERS: usize = 1 + Reason::ALL.len();
+
     /// Each image is judged by both editions, whichever it is made by.
     #[test]
     fn the_first_fault_is_what_the_library_refuses() {
-        let mut met = [[0; 13]; 2];
+        let mut met = [[0; NUMBERS]; 2];
         for number in 0..CASES {
             let bytes = case(7, number).bytes;
             for (edition, met) in Edition::ALL.into_iter().zip(&mut met) {
@@ -116,9 +120,48 @@ mod tests {
             }
         }
         for (edition, met) in Edition::ALL.into_iter().zip(met) {
-            let due = |number: usize| edition.has_footer() || !matches!(number, 7 | 8);
-            assert!((0..13).all(|number| (met[number] > 0) == due(number)), "how often each number came up by {edition}: {met:?}");
+            let due = |number: usize| match number {
+                7 | 8 | 19 => edition.has_footer(),
+                _ => number <= 12,
+            };
+            assert!((0..NUMBERS).all(|number| (met[number] > 0) == due(number)), "how often each number came up by {edition}: {met:?}");
         }
+    }
+
+    /// Image A with a footer whose strings have these texts, behind one another.
+    fn footed(texts: [&[u8]; 6]) -> Vec<u8> {
+        let (mut image, mut footer) = (scp::example::image_a(), Vec::new());
+        for text in texts {
+            footer.extend((image.len() as u32).to_le_bytes());
+            image.extend([&(text.len() as u16).to_le_bytes(), text, &[0]].concat());
+        }
+        image.extend(footer);
+        image.extend([0; 16]);
+        image.extend(b"\0\0\0\x16FPCS");
+        image[8] |= 0x20;
+        let sum = Layout { bytes: &image, edition: Edition::V1_6 }.sum();
+        image[12..16].copy_from_slice(&sum.to_le_bytes());
+        image
+    }
+
+    /// The bytes at which the table of well-formed sequences turns, and zero, which no string holds.
+    #[test]
+    fn the_first_fault_of_strings_is_what_the_library_refuses() {
+        let edges = *b"\0a\x7F\x80\x8F\x90\x9F\xA0\xBF\xC0\xC1\xC2\xDF\xE0\xE1\xEC\xED\xEE\xF0\xF1\xF3\xF4\xF5\xF7\xF8\xFF";
+        let mut met = [0; NUMBERS];
+        for number in 0..2 * edges.len().pow(3) {
+            let [first, second, third] = [0, 1, 2].map(|digit| edges[number / edges.len().pow(digit) % edges.len()]);
+            let text = [first, second, third, [0x80, b'a'][number / edges.len().pow(3)]];
+            let image = footed([b"", "\u{B5}".as_bytes(), &text, &text[2..], &text[..1], b"\x97"]);
+            let verdict = scp::validate(&image, Edition::V1_6).expect_err("the last string is wrong");
+            let faults = faults(Layout { bytes: &image, edition: Edition::V1_6 });
+            assert_eq!(faults[0].refusal, verdict, "{text:02X?}: {faults:?}");
+            let places: Vec<u64> = faults.iter().map(|fault| fault.refusal.position).collect();
+            assert!(places.is_sorted_by(|left, right| left < right), "one for each string, in order: {faults:?}");
+            assert_eq!(scp::validate(&image, Edition::V1_4), Ok(()));
+            met[usize::from(verdict.reason.number())] += 1;
+        }
+        assert!((0..NUMBERS).all(|number| (met[number] > 0) == matches!(number, 8 | 19)), "how often each number came up: {met:?}");
     }
 
     /// What is said starts with the refusal, and goes on with what was asked for, where it is about a track.
@@ -158,7 +201,7 @@ mod tests {
 
     #[test]
     fn the_reason_of_a_refused_rewrite_is_there_just_when_it_is_refused() {
-        let mut met = [[0; 19]; 2];
+        let mut met = [[0; NUMBERS]; 2];
         for number in 0..CASES {
             let case = case(8, number);
             for question in &case.questions {
@@ -182,8 +225,9 @@ mod tests {
                 }
             }
         }
-        for number in [13, 14, 17, 18] {
-            assert!(met.iter().all(|met| met[number] > 0), "{number} never came up: {met:?}");
+        for (edition, met) in Edition::ALL.into_iter().zip(met) {
+            let asked = [13, 14, 17, 18].into_iter().all(|number| met[number] > 0);
+            assert!(asked && (met[19] > 0) == edition.has_footer(), "how often each number came up by {edition}: {met:?}");
         }
     }
 

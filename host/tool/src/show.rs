@@ -10,6 +10,7 @@ use scp::{Edition, Footer, Header, Reason, Refusal, STRING_NAMES};
 use crate::arguments::{Arguments, Command};
 use crate::checksum::Checksum;
 use crate::dates::utc;
+use crate::escapes::quoted;
 use crate::failure::{Failure, Status};
 use crate::files::at_least;
 use crate::flux::{count_intervals_of, Counts};
@@ -145,9 +146,10 @@ fn say_footer(image: &[u8], footer: &Footer, faults: &[Fault], out: &mut dyn Wri
         Some(fault) => field(out, "footer", format!("present, but {fault}"))?,
     }
     for (number, (name, offset)) in (0..).zip(STRING_NAMES.into_iter().zip(footer.strings)) {
+        let but = fault(faults, Reason::Text, number).map_or(String::new(), |fault| format!(", but {fault}"));
         let value = match (fault(faults, Reason::String, number), scp::string(image, offset)) {
             (Some(fault), _) => fault.to_string(),
-            (None, Some(string)) => format!("\"{}\" (at 0x{offset:08X})", string.escape_ascii()),
+            (None, Some(string)) => format!("{} (at 0x{offset:08X}){but}", quoted(string)),
             (None, None) => "-".to_string(),
         };
         field(out, &format!("  {name}"), value)?;

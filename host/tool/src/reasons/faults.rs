@@ -4,6 +4,7 @@ use std::fmt::Debug;
 
 use scp::{Footer, Header, Reason, Refusal, LONGEST_IMAGE, STRING_NAMES};
 
+use super::text;
 use crate::faults::Refused;
 use crate::layout::{Layout, TrackHeader, FOOTER_SIGN};
 use crate::numbers::{counted, grouped, hexadecimal};
@@ -121,38 +122,44 @@ impl<'a> Search<'a> {
             self.note(Reason::Footer, format!("the format version 0x{format:02X} is below 0x{FOOTER_FORMAT:02X}"));
         }
         if sign == FOOTER_SIGN {
-            for (number, (name, offset)) in (0..).zip(STRING_NAMES.into_iter().zip(strings)) {
-                if let Some(text) = self.string(offset.into()) {
-                    self.note_at(Reason::String, number, format!("{name}: {text}"));
+            let present = (0..).zip(STRING_NAMES.into_iter().zip(strings)).filter(|(_, (_, offset))| *offset != 0);
+            present.for_each(|(number, (name, offset))| self.string(number, name, offset.into()));
+        }
+    }
+
+    /// A string that is there; the text is looked at where the string is right.
+    fn string(&mut self, number: u32, name: &str, offset: u64) {
+        match self.text(offset) {
+            Err(wrong) => self.note_at(Reason::String, number, format!("{name}: {wrong}")),
+            Ok(text) => {
+                if let Some(wrong) = text::fault(text, offset + 2) {
+                    self.note_at(Reason::Text, number, format!("{name} (string {number} at {}): {wrong}", grouped(offset)));
                 }
             }
         }
     }
 
-    /// What is wrong with the string at an offset, if anything is.
-    fn string(&self, offset: u64) -> Option<String> {
+    /// The text of the string at an offset, or what is wrong with the string.
+    fn text(&self, offset: u64) -> Result<&'a [u8], String> {
         let (start, end) = (self.layout.table_end(), self.layout.end());
-        if offset == 0 {
-            return None;
-        }
         if offset < start {
-            return Some(format!("its offset {offset} is below {start}"));
+            return Err(format!("its offset {offset} is below {start}"));
         }
         if offset + 2 > end {
-            return Some(format!("its length at {} ends past {}", grouped(offset), grouped(end)));
+            return Err(format!("its length at {} ends past {}", grouped(offset), grouped(end)));
         }
-        let size = u64::from(u16::from_le_bytes(self.layout.array(offset)?));
+        let size = u64::from(u16::from_le_bytes(self.layout.array(offset).unwrap_or_default()));
         let past = offset + 2 + size + 1;
         if past > end {
             let (size, offset) = (grouped(size), grouped(offset));
-            return Some(format!("2 + {size} + 1 bytes at {offset} end at {}, past {}", grouped(past), grouped(end)));
+            return Err(format!("2 + {size} + 1 bytes at {offset} end at {}, past {}", grouped(past), grouped(end)));
         }
-        let (text, last) = (self.layout.part(offset + 2, size)?, self.layout.array::<1>(past - 1)?);
+        let (text, last) = (self.layout.part(offset + 2, size).unwrap_or_default(), self.layout.array::<1>(past - 1).unwrap_or_default());
         match text.iter().position(|&byte| byte == 0) {
-            Some(zero) => Some(format!("the byte at {}, within its {}, is 0", grouped(offset + 2 + zero as u64), counted(size, "byte"))),
-            None if last == [0] => None,
+            Some(zero) => Err(format!("the byte at {}, within its {}, is 0", grouped(offset + 2 + zero as u64), counted(size, "byte"))),
+            None if last == [0] => Ok(text),
             None => {
-                Some(format!("the byte at {}, after its {}, is {}, not 0", grouped(past - 1), counted(size, "byte"), hexadecimal(&last)))
+                Err(format!("the byte at {}, after its {}, is {}, not 0", grouped(past - 1), counted(size, "byte"), hexadecimal(&last)))
             }
         }
     }

@@ -97,6 +97,10 @@ fn faulty_elsewhere() -> Vec<(Vec<u8>, &'static str)> {
         (footed_but(&[(809, &[0xFF; 4])]), "8 String: comments: its length at 4,294,967,295 ends past 789"),
         (footed_but(&[(787, &[0])]), "8 String: maker: the byte at 787, within its 2 bytes, is 0"),
         (footed_but(&[(788, b"!")]), "8 String: maker: the byte at 788, after its 2 bytes, is 21, not 0"),
+        (
+            footed_but(&[(787, &[0x97])]),
+            "19 Text: maker (string 0 at 784): not UTF-8 at 787, after 1 of its 2 bytes: 97 cannot start a character, in \"h\\x97\"",
+        ),
         (footed_but(&[(6, &[2])]), "9 Slot: track 1 has an entry, but the tracks are 2 to 3"),
         (footed_but(&[(7, &[2])]), "9 Slot: track 3 has an entry, but the tracks are 1 to 2"),
         (footed_but(&[(10, &[1])]), "9 Slot: track 1 has an entry, but only side 0 is held (heads 1)"),

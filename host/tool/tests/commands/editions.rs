@@ -222,6 +222,11 @@ fn without_hint() -> Vec<(Vec<u8>, Edition, &'static str)> {
         ),
         (old(8, &[0x21]), Edition::V1_6, "7 Footer: FLAGS 0x21 announces one, but 704 bytes are fewer than 736"),
         (changed(footed(), 714, &[0]), Edition::V1_6, "8 String: maker: the byte at 714, within its 2 bytes, is 0"),
+        (
+            changed(footed(), 714, &[0x97]),
+            Edition::V1_6,
+            "19 Text: maker (string 0 at 712): not UTF-8 at 714, after 0 of its 2 bytes: 97 cannot start a character, in \"\\x97i\"",
+        ),
         (old(16, &[0xA7]), Edition::V1_4, "10 Track: track 0: its header at 679 is below 680"),
         (old(16, &[0xB1]), Edition::V1_4, "10 Track: track 0: its header of 16 bytes at 689 ends at 705, past 704"),
         (old(688, &[5]), Edition::V1_4, "11 Flux: track 0, revolution 0: 2 x 5 bytes at 696 end at 706, past 704"),

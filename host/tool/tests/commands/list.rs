@@ -2,7 +2,7 @@
 
 use scp::Edition;
 
-use crate::bench::{damaged_a, image, Bench, Revolution};
+use crate::bench::{damaged_a, image, with_footer, Bench, Revolution};
 
 /// The listing of image A, byte for byte.
 const LISTING_OF_A: &str = "ok 712 tracks 1 turns 1 sum 980\ntrack 0 turn 0 ticks 8000000 words 4 intervals 3 open 0 last 3\n";
@@ -70,7 +70,13 @@ fn refusals_are_listed() {
     misplaced[7] = 3;
     misplaced[0x1C] = 5;
     let short = &scp::example::image_a()[..687];
-    for (bytes, line) in [(&damaged_a()[..], "refused 12 at 0\n"), (&misplaced, "refused 10 at 3\n"), (short, "refused 1 at 0\n")] {
+    let text = with_footer(scp::example::image_a(), [b"a", b"", b"", b"", b"", b"\x97"], 1, 2);
+    for (bytes, line) in [
+        (&damaged_a()[..], "refused 12 at 0\n"),
+        (&misplaced, "refused 10 at 3\n"),
+        (short, "refused 1 at 0\n"),
+        (&text, "refused 19 at 5\n"),
+    ] {
         bench.put("b.scp", bytes);
         let run = bench.run("list b.scp");
         assert_eq!((run.status, run.out.as_str(), run.err.as_str()), (1, line, ""));

@@ -17,6 +17,7 @@ mod show;
 #[cfg(target_os = "linux")]
 mod signals;
 mod streams;
+mod text;
 mod undo;
 mod usage;
 mod validate;

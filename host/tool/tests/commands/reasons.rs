@@ -49,6 +49,17 @@ fn cases() -> Vec<(Vec<u8>, &'static str, &'static str)> {
         (changed(footed(), 712, &[6]), "8 at 0", "8 String: maker: 2 + 6 + 1 bytes at 712 end at 721, past 720"),
         (changed(footed(), 716, &[0]), "8 at 0", "8 String: maker: the byte at 716, within its 5 bytes, is 0"),
         (changed(footed(), 712, &[4]), "8 at 0", "8 String: maker: the byte at 718, after its 4 bytes, is 6F, not 0"),
+        (
+            changed(footed(), 715, &[0x97]),
+            "19 at 0",
+            "19 Text: maker (string 0 at 712): not UTF-8 at 715, after 1 of its 5 bytes: 97 cannot start a character, in \"h\\x97llo\"",
+        ),
+        (
+            changed(footed(), 718, &[0xE9]),
+            "19 at 0",
+            "19 Text: maker (string 0 at 712): not UTF-8 at 718, after 4 of its 5 bytes: E9 starts a character of 3 bytes, which the end \
+             of the string cuts off, in \"hell\\xE9\"",
+        ),
         (changed(three_tracks(), 7, &[2]), "9 at 3", "9 Slot: track 3 has an entry, but the tracks are 1 to 2"),
         (changed(three_tracks(), 6, &[2]), "9 at 1", "9 Slot: track 1 has an entry, but the tracks are 2 to 3"),
         (one_side(1), "9 at 3", "9 Slot: track 3 has an entry, but only side 0 is held (heads 1)"),
@@ -89,7 +100,7 @@ fn every_case_of_every_number_is_told() {
         numbers.push(answer.split(' ').next().unwrap_or_default().parse::<u8>().expect("a number"));
     }
     numbers.dedup();
-    assert_eq!(numbers, (1..=12).collect::<Vec<u8>>());
+    assert_eq!(numbers, (1..=8).chain([19]).chain(9..=12).collect::<Vec<u8>>());
 }
 
 #[test]
@@ -112,8 +123,11 @@ fn a_file_longer_than_any_image_is_told() {
 fn all_faults_are_listed() {
     let bench = Bench::new();
     let mut faulty = with_footer(three_tracks(), [b"a", b"b", b"c", b"", b"", b""], 1, 2);
-    let strings = 784;
-    for (offset, byte) in [(9, 8), (7, 1), (10, 1), (strings + 2, 0), (strings + 8 + 3, 7), (721, 0), (752 + 3, 4), (752 + 4 + 7, 1)] {
+    let (maker, model, serial) = (784, 788, 792);
+    for (offset, byte) in [(9, 8), (7, 1), (10, 1), (maker + 2, 0), (model + 2, 0x97), (serial + 3, 7)] {
+        faulty[offset] = byte;
+    }
+    for (offset, byte) in [(721, 0), (752 + 3, 4), (752 + 4 + 7, 1)] {
         faulty[offset] = byte;
     }
     bench.put("b.scp", &faulty);
@@ -122,6 +136,7 @@ fn all_faults_are_listed() {
         "a.scp: ok",
         "b.scp: refused 3 Width: byte 0x09 is 8, not 0 or 16",
         "b.scp: also 8 String: maker: the byte at 786, within its 1 byte, is 0",
+        "b.scp: also 19 Text: model (string 1 at 788): not UTF-8 at 790, after 0 of its 1 byte: 97 cannot start a character, in \"\\x97\"",
         "b.scp: also 8 String: serial: the byte at 795, after its 1 byte, is 07, not 0",
         "b.scp: also 9 Slot: track 1 has an entry, but only side 0 is held (heads 1)",
         "b.scp: also 9 Slot: track 2 has an entry, but the tracks are 1 to 1",
@@ -130,7 +145,7 @@ fn all_faults_are_listed() {
         "b.scp: also 9 Slot: track 3 has an entry, but only side 0 is held (heads 1)",
         "b.scp: also 10 Track: track 3: its header at 752 is that of track 4",
         "b.scp: also 11 Flux: track 3, revolution 0: 2 x 16,777,217 bytes at 780 end at 33,555,214, past 796",
-        "b.scp: also 12 Sum: stored 2,326, the bytes add up to 2,156",
+        "b.scp: also 12 Sum: stored 2,326, the bytes add up to 2,209",
     ];
     assert_eq!((run.status, run.out.lines().collect::<Vec<_>>()), (1, due.to_vec()));
 }

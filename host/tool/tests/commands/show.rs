@@ -75,12 +75,12 @@ fn a_read_write_image_stores_0() {
 #[test]
 fn the_footer_is_printed_safely() {
     let bench = Bench::new();
-    let strings: [&[u8]; 6] = [b"Maker", b"M\x97del\n", b"", b"\x1b[31m\"\\", "é".as_bytes(), b"fine"];
+    let strings: [&[u8]; 6] = [b"Maker", b"Model\n", b"", b"\x1b[31m\"\\", "é".as_bytes(), b"fine"];
     let first = image(0, &[(0, &[(8_000_000, &[160])])]);
     bench.put("f.scp", &with_footer(first.clone(), strings, 1_512_432_000, -1));
     let out = bench.passes("show f.scp");
-    assert!(out.is_ascii() && !out.contains('\x1b'), "{out}");
-    for text in [r#""Maker" (at 0x"#, r#""M\x97del\n" (at"#, r#""\x1b[31m\"\\" (at"#, r#""\xc3\xa9" (at"#, r#""fine" (at"#] {
+    assert!(!out.chars().any(|letter| letter.is_control() && letter != '\n'), "{out}");
+    for text in [r#""Maker" (at 0x"#, r#""Model\n" (at"#, r#""\u{1b}[31m\"\\" (at"#, r#""é" (at"#, r#""fine" (at"#] {
         assert!(out.contains(text), "{text}: {out}");
     }
     assert!(has(&out, "serial", "-"), "{out}");
@@ -163,6 +163,13 @@ fn faults_of_a_footer_stand_beside_its_fields() {
         (strings, &[10, 0][..], "maker", "8 String: maker: its offset 10 is below 688"),
         (strings + 4, &[0xFF, 0xFF], "model", "8 String: model: its length at 65,535 ends past 729"),
         (712 + 3, &[0], "maker", "8 String: maker: the byte at 715, within its 5 bytes, is 0"),
+        (
+            712 + 3,
+            &[0x97],
+            "maker",
+            "\"M\\x97ker\" (at 0x000002C8), but 19 Text: maker (string 0 at 712): not UTF-8 at 715, after 1 of its 5 bytes: \
+             97 cannot start a character, in \"M\\x97ker\"",
+        ),
         (strings + 0x2B, &[0x10], "footer", "present, but 7 Footer: the format version 0x10 is below 0x16"),
         (strings + 0x2C, b"fpcs", "footer", "7 Footer: the last four bytes are 66 70 63 73, not FPCS"),
     ] {
