@@ -15,8 +15,9 @@ mod plain_dsk;
 
 use scp::{raw, Edition};
 use scp_compare::image::flux_bytes;
-use scp_compare::outside::{flux_words, image, image_a_with_flux, Style, CAPTURE, CAPTURE_1_4, READ_WRITE};
+use scp_compare::outside::{flux_words, image, image_a_with_flux, with_strings, Style, CAPTURE, CAPTURE_1_4, READ_WRITE};
 use scp_compare::random::Random;
+use scp_compare::text::of_widths;
 use std::hint::black_box;
 use std::time::Instant;
 
@@ -29,12 +30,21 @@ const ALL_TRACKS: Style = Style { last_track: 167, ..CAPTURE };
 /// A capture of the most tracks that revision 1.4 has.
 const ALL_TRACKS_1_4: Style = Style { last_track: 165, ..CAPTURE_1_4 };
 
+/// The bytes of the longest string.
+const LONGEST_STRING: usize = 65_535;
+
+/// What texts are made of, each with its name and the widths of its characters in bytes.
+const ASCII: (&str, &[usize]) = ("ASCII", &[1]);
+const MIXED: (&str, &[usize]) = ("1 to 4 bytes a character", &[1, 2, 3, 4]);
+
 fn main() {
     let rounds = std::env::args().nth(1).and_then(|word| word.parse().ok()).unwrap_or(31).max(3);
     say_columns("library beside plain Rust");
     validate(rounds);
     summing(rounds);
     question(rounds);
+    strings(rounds);
+    texts(rounds);
     direct(rounds);
     stepping(rounds);
     reading(rounds);
@@ -135,6 +145,43 @@ fn question(rounds: usize) {
         let plain = || added(plain::revolution(black_box(&image), black_box(edition), 16, 2));
         let (revolutions, by) = (style.revolutions, by(edition));
         ratio(&format!("open {tracks} tracks of {revolutions} revolutions and ask for one{by}"), rounds, times, library, plain);
+    }
+}
+
+/// Validating an image with six strings of the greatest length, and opening it with the question for the header.
+fn strings(rounds: usize) {
+    for (times, (name, widths)) in [(200, ASCII), (20, MIXED)] {
+        let mut random = Random::new(5);
+        let strings = [(); 6].map(|()| Some(of_widths(LONGEST_STRING, widths, &mut random)));
+        let image = with_strings(&Style { last_track: 0, revolutions: 1, ..CAPTURE }, 100, strings);
+        let edition = CAPTURE.edition;
+        let library = || raw::validate(black_box(&image), edition.number());
+        assert_eq!(library(), 0, "the image is valid");
+        let plain = || code(plain::validate(black_box(&image), black_box(edition)));
+        ratio(&format!("validate six strings of 65,535 bytes ({name})"), rounds, times, library, plain);
+        let library = || {
+            let mut out = [0; 9];
+            raw::header(black_box(&image), edition.number(), &mut out) + out[8]
+        };
+        let plain = || match plain::checksum(black_box(&image), black_box(edition)) {
+            Ok(sum) => sum.into(),
+            Err(refused) => code::<()>(Err(refused)),
+        };
+        ratio(&format!("open six strings of 65,535 bytes ({name})"), rounds, times, library, plain);
+    }
+}
+
+/// How far a text of the greatest length is well-formed.
+fn texts(rounds: usize) {
+    let of_width: [(&str, &[usize]); 3] = [("2 bytes a character", &[2]), ("3 bytes a character", &[3]), ("4 bytes a character", &[4])];
+    for (name, widths) in [ASCII].into_iter().chain(of_width).chain([MIXED]) {
+        let text = of_widths(LONGEST_STRING, widths, &mut Random::new(6));
+        let library = || {
+            let mut out = [0];
+            raw::valid_up_to(black_box(&text), &mut out) + out[0]
+        };
+        let plain = || plain::valid_up_to(black_box(&text)) as u64;
+        ratio(&format!("test a text of 65,535 bytes ({name})"), rounds, 200, library, plain);
     }
 }
 

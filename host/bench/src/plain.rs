@@ -38,7 +38,7 @@ fn le32(image: &[u8], place: usize) -> u32 {
     u32::from_le_bytes(image[place..place + 4].try_into().expect("four bytes"))
 }
 
-/// Refusals 1 to 11; gives the table, with 0 for a track that the edition does not have.
+/// Refusals 1 to 11 and 19; gives the table, with 0 for a track that the edition does not have.
 pub fn open(image: &[u8], edition: Edition) -> Result<[u32; 168], Refused> {
     check_header(image, edition)?;
     if has_footer(image, edition) {
@@ -80,25 +80,33 @@ fn check_header(image: &[u8], edition: Edition) -> Result<(), Refused> {
     Ok(())
 }
 
-/// Refusals 7 and 8.
+/// Refusals 7, 8 and 19.
 fn check_footer(image: &[u8]) -> Result<(), Refused> {
     if image.len() < 736 || !image.ends_with(b"FPCS") || image[image.len() - 5] < 0x16 {
         return Err((7, 0));
     }
     for string in 0..6 {
         let offset = le32(image, image.len() - 48 + 4 * string) as usize;
-        if offset != 0 && !good_string(&image[..image.len() - 48], offset) {
-            return Err((8, string as u64));
+        if offset != 0 {
+            let text = text_at(&image[..image.len() - 48], offset).ok_or((8, string as u64))?;
+            std::str::from_utf8(text).map_err(|_| (19, string as u64))?;
         }
     }
     Ok(())
 }
 
-fn good_string(body: &[u8], offset: usize) -> bool {
-    let Some([low, high]) = body.get(offset..offset + 2) else { return false };
-    let size = usize::from(u16::from_le_bytes([*low, *high]));
-    let Some(text) = body.get(offset + 2..offset + 3 + size) else { return false };
-    offset >= 688 && text[size] == 0 && !text[..size].contains(&0)
+/// The text of the string at an offset, if it is one.
+fn text_at(body: &[u8], offset: usize) -> Option<&[u8]> {
+    let size = body.get(offset..offset + 2)?;
+    let size = usize::from(u16::from_le_bytes([size[0], size[1]]));
+    let (text, closing) = body.get(offset + 2..offset + 3 + size)?.split_at(size);
+    (offset >= 688 && closing == [0] && !text.contains(&0)).then_some(text)
+}
+
+/// How far the text is well-formed UTF-8.
+#[inline(never)]
+pub fn valid_up_to(text: &[u8]) -> usize {
+    std::str::from_utf8(text).map_or_else(|error| error.valid_up_to(), str::len)
 }
 
 /// Where tracks, flux and strings may stand: from the end of the table to E.
@@ -139,7 +147,7 @@ fn of_record(entry: u64, record: &[u8]) -> Revolution {
     Revolution { duration: le32(record, 0), words: le32(record, 4), place: entry + u64::from(le32(record, 8)) }
 }
 
-/// Refusals 1 to 12.
+/// Refusals 1 to 12 and 19.
 #[inline(never)]
 pub fn validate(image: &[u8], edition: Edition) -> Result<(), Refused> {
     open(image, edition)?;
@@ -154,7 +162,14 @@ fn byte_sum(bytes: &[u8]) -> u32 {
     bytes.iter().fold(0, |sum, &byte| sum.wrapping_add(byte.into()))
 }
 
-/// A revolution: refusals 1 to 11, 13, 14.
+/// The checksum of the header: refusals 1 to 11 and 19.
+#[inline(never)]
+pub fn checksum(image: &[u8], edition: Edition) -> Result<u32, Refused> {
+    open(image, edition)?;
+    Ok(le32(image, 12))
+}
+
+/// A revolution: refusals 1 to 11, 19, 13, 14.
 #[inline(never)]
 pub fn revolution(image: &[u8], edition: Edition, track: u32, revolution: u32) -> Result<Revolution, Refused> {
     find(image, &open(image, edition)?, track, revolution)
@@ -287,7 +302,7 @@ pub fn words(times: &[u64], words: &mut [u8]) -> Result<usize, Refused> {
     Ok(at)
 }
 
-/// Rewrites a revolution: refusals 1 to 11, 13, 14, 17, 18.
+/// Rewrites a revolution: refusals 1 to 11, 19, 13, 14, 17, 18.
 #[inline(never)]
 pub fn rewrite(image: &mut [u8], edition: Edition, track: u32, k: u32, duration: u32, new: &[u8]) -> Result<(), Refused> {
     let table = open(image, edition)?;

@@ -4,20 +4,23 @@ use crate::ask::{agree_on, Case};
 use crate::edition::{is_1_4, some_number, some_row_number, V1_4, V1_6};
 use crate::generate;
 use crate::image::{duration_at, entry_at, flux_bytes, number_at};
+use crate::outside::{string_in_flux, ILL_FORMED, NO_STRING, STRING};
 use crate::patches::patches;
 use crate::question::{number, Asked, Question};
 use crate::random::Random;
 use crate::sequence::{Calls, ANSWER, CALL, EDITION, REWRITE};
+use crate::text;
 use scp::Edition;
 
-/// The case of a number, under a seed: an image or flux, and questions about it.
+/// The case of a number, under a seed: an image, flux, times or a text, and questions about it.
 pub fn case(seed: u64, number: u64) -> Case<Question> {
     let mut random = Random::of_case(seed, number);
     match number % 8 {
         0..=3 => image_case(&mut random),
         4 | 5 => sequence_case(&mut random),
         6 => flux_case(&mut random),
-        _ => times_case(&mut random),
+        _ if number % 16 == 7 => times_case(&mut random),
+        _ => text_case(&mut random),
     }
 }
 
@@ -207,8 +210,8 @@ fn rewrite(image: &[u8], track: u32, revolution: u32, random: &mut Random) -> As
 /// Words for a rewrite: any, or all of them a string.
 fn new_words(image: &[u8], track: u32, revolution: u32, random: &mut Random) -> Vec<u8> {
     let most = count(image, track, revolution).min(64) as usize;
-    if most > 1 && random.once_in(8) {
-        return generate::string_bytes(2 * most, random);
+    if most > 1 && random.once_in(5) {
+        return generate::string_words(2 * most, random);
     }
     let words = match random.below(6) {
         0 => most + 1,
@@ -230,10 +233,10 @@ pub fn some_flux(words: usize, random: &mut Random) -> Vec<u8> {
 
 // ---- sequences of calls
 
-/// An image and a sequence of calls on it, as it is and with each call by the other edition; and a sequence, mostly a list of patches, that
-/// is taken back.
+/// An image, now and then one with a string in its flux, and a sequence of calls on it, as it is and with each call by the other edition;
+/// and a sequence, mostly a list of patches, that is taken back.
 fn sequence_case(random: &mut Random) -> Case<Question> {
-    let bytes = generate::image(random);
+    let bytes = if random.once_in(16) { string_in_flux(random.pick(&[STRING, NO_STRING, ILL_FORMED])) } else { generate::image(random) };
     let (calls, words) = sequence(&bytes, random);
     let needed = ANSWER * (calls.len() / CALL);
     let places = match random.below(8) {
@@ -283,6 +286,25 @@ fn other_editions(calls: &[u64]) -> Vec<u64> {
         call[EDITION] = if is_1_4(call[EDITION]) { V1_6 } else { V1_4 }.into();
     }
     others
+}
+
+// ---- texts
+
+/// A text that is well-formed, that is but for one sequence or one byte, or of bytes at the edges; into enough places, too few and more.
+fn text_case(random: &mut Random) -> Case<Question> {
+    let size = text::size(random);
+    let bytes = match random.below(4) {
+        0 => text::well_formed(size, random),
+        1 => text::ill_formed(size.max(1), random),
+        2 => {
+            let mut bytes = text::well_formed(size.max(1), random);
+            bytes[random.below(size.max(1))] = random.byte();
+            bytes
+        }
+        _ => text::edge_bytes(size.min(8), random),
+    };
+    let more = 2 + random.below(3);
+    Case { bytes, questions: [1, 0, more].map(|places| Question::ValidUpTo { places }).to_vec() }
 }
 
 // ---- flux and times

@@ -3,13 +3,12 @@
 use crate::difference::{same, same_codes, Difference};
 use crate::guarded::{Guarded, Same};
 use std::fmt::Debug;
-use std::ops::RangeInclusive;
 
 /// What refuses an image that does not open.
-const OPENING: RangeInclusive<u64> = 1..=11;
+const OPENING: [u64; 12] = [1, 2, 3, 4, 5, 6, 7, 8, 9, 10, 11, 19];
 
-/// Lends both calls a buffer of old elements: unless the full one is refused with one of 1 to 11, they return the same code and leave the
-/// same buffer. So where the direct one is refused with one of 1 to 11, the full one is, too.
+/// Lends both calls a buffer of old elements: unless the full one is refused with one of 1 to 11 or 19, they return the same code and leave
+/// the same buffer. So where the direct one is refused with one of 1 to 11, the full one is refused with one of these or 19.
 pub fn as_full<T: Copy + Same + Debug>(
     places: usize,
     old: T,
@@ -50,14 +49,14 @@ mod tests {
             assert!(!fits((code, &[1, 2]), (code, &[1, 3])));
             assert!(!fits((code, &[1, 2]), (code, &[1, 2, 3])));
             assert!(!fits((code, &[]), (code + 256, &[])));
-            (1..=11).for_each(|refused| assert!(!fits((code, &[]), (refused, &[]))));
+            OPENING.into_iter().for_each(|refused| assert!(!fits((code, &[]), (refused, &[]))));
         }
         assert!(!fits((0, &[]), (14, &[])) && !fits((14, &[]), (0, &[])));
     }
 
     #[test]
     fn a_direct_call_is_free_where_the_image_does_not_open() {
-        for code in (1..=11).flat_map(|number| [number, number + 256 * 3]) {
+        for code in OPENING.into_iter().flat_map(|number| [number, number + 256 * 3]) {
             assert!([0, 1, 9, 11, 13, 14, 15].into_iter().all(|direct| fits((code, &[]), (direct, &[1, 2]))));
         }
     }

@@ -37,7 +37,7 @@ pub fn of_row(number: u64) -> Edition {
     }
 }
 
-/// Whether the image opens by an edition: none of 1 to 11 refuses it.
+/// Whether the image opens by an edition: none of 1 to 11 and 19 refuses it.
 pub fn opens(image: &[u8], edition: Edition) -> bool {
     scp::header(image, edition).is_ok()
 }

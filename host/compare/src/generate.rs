@@ -5,6 +5,7 @@ use crate::image::{
     FOOTER_SIZE,
 };
 use crate::random::Random;
+use crate::text;
 use scp::Edition;
 
 /// The most revolutions of all tracks together: four tracks of 255, or all tracks of six.
@@ -106,11 +107,12 @@ pub fn words(random: &mut Random, most: usize) -> Vec<u16> {
     (0..count).map(|_| word(random)).collect()
 }
 
-/// A footer with strings.
+/// A footer with strings, once in a long while of the greatest length.
 fn footer(random: &mut Random) -> FooterPart {
+    let longest = random.once_in(2000);
     let string = |random: &mut Random| {
-        let size = random.pick(&[0, 1, 2, 9, 300]);
-        random.once_in(2).then(|| (0..size).map(|_| random.byte().max(1)).collect())
+        let size = if longest { 65_535 } else { text::size(random) };
+        random.once_in(2).then(|| text::well_formed(size, random))
     };
     let time = |random: &mut Random| random.pick(&[0, -1, 1, 255, 1_700_000_000, i64::MIN, i64::MAX]);
     let format = random.pick(&[0x16, 0x16, 0x17, 0xFF]);
@@ -127,12 +129,13 @@ fn footer(random: &mut Random) -> FooterPart {
 /// Lets a part overlap another where that leaves the image openable by an edition, or nearly so.
 fn overlap(parts: &Parts, placed: &mut Placed, random: &mut Random) {
     for _ in 0..random.between(1, 3) {
-        match random.below(10) {
-            0 => share_string(parts, placed, random),
-            1 => header_in_header(parts, placed, random),
-            2 | 3 => string_in_flux(parts, placed, random),
-            4 => move_header(parts, placed, random),
-            5 => feign_footer(&mut placed.image, random),
+        match random.below(14) {
+            0 | 1 => share_string(parts, placed, random),
+            2 => header_in_header(parts, placed, random),
+            3..=5 => string_in_flux(parts, placed, random),
+            6 => string_in_duration(parts, placed, random),
+            7 => move_header(parts, placed, random),
+            8 => feign_footer(&mut placed.image, random),
             _ => move_flux(parts, placed, random),
         }
     }
@@ -154,21 +157,22 @@ fn data_end(image: &[u8], random: &mut Random) -> usize {
     image.len().saturating_sub(if flagged { random.pick(&[0, FOOTER_SIZE]) } else { 0 })
 }
 
-/// Puts the flux of a revolution elsewhere: onto that of another, onto a header or a string, to the end, or anywhere above its header.
+/// Puts the flux of a revolution elsewhere: onto that of another, onto a header, onto the start or the end of a string, to the end, or
+/// anywhere above its header.
 fn move_flux(parts: &Parts, placed: &mut Placed, random: &mut Random) {
     let Some((track, revolution)) = some_revolution(parts, random) else { return };
     let Some((other, other_revolution)) = some_revolution(parts, random) else { return };
     let header = placed.headers[track];
     let size = 2 * parts.tracks[track].revolutions[revolution].words.len();
     let end = data_end(&placed.image, random);
-    let string = random.pick(&placed.strings) as usize;
-    let place = match random.below(7) {
-        0 => placed.flux[other][other_revolution],
-        1 => placed.headers[other] + random.below(8 + 12 * usize::from(parts.revolutions)),
-        2 => end - size.min(end),
-        3 => (placed.flux[other][other_revolution] + 2).saturating_sub(2 * random.below(3)),
-        4 => duration_at(header, revolution) + random.below(13),
-        5 => (string + random.below(14)).saturating_sub(size),
+    let place = match (random.below(8), some_text(&placed.image, random)) {
+        (0, _) => placed.flux[other][other_revolution],
+        (1, _) => placed.headers[other] + random.below(8 + 12 * usize::from(parts.revolutions)),
+        (2, _) => end - size.min(end),
+        (3, _) => (placed.flux[other][other_revolution] + 2).saturating_sub(2 * random.below(3)),
+        (4, _) => duration_at(header, revolution) + random.below(13),
+        (5, Some((text, _))) => (text + random.below(12)).saturating_sub(size),
+        (6, Some((text, length))) => text + length + 1 - random.below(3),
         _ => random.between(parts.edition.table_end(), placed.image.len()),
     };
     if header <= place {
@@ -228,14 +232,42 @@ fn string_in_flux(parts: &Parts, placed: &mut Placed, random: &mut Random) {
         bytes[size - 1] = random.byte();
     }
     set(&mut placed.image, place, &bytes);
-    let slot = placed.image.len() - FOOTER_SIZE + 4 * random.below(6);
-    set(&mut placed.image, slot, &(place as u32).to_le_bytes());
+    put_string(&mut placed.image, place, random);
+}
+
+/// Has a string of the footer, of one letter, lie in the duration of a revolution.
+fn string_in_duration(parts: &Parts, placed: &mut Placed, random: &mut Random) {
+    let Some((track, revolution)) = some_revolution(parts, random) else { return };
+    if parts.footer.is_none() {
+        return;
+    }
+    let place = duration_at(placed.headers[track], revolution);
+    set(&mut placed.image, place, &string_bytes(4, random));
+    put_string(&mut placed.image, place, random);
+}
+
+/// Gives one of the six strings of the footer this place.
+fn put_string(image: &mut [u8], place: usize, random: &mut Random) {
+    let Some(footer) = image.len().checked_sub(FOOTER_SIZE) else { return };
+    set(image, footer + 4 * random.below(6), &(place as u32).to_le_bytes());
 }
 
 /// A string that takes so many bytes, at least 3.
-pub fn string_bytes(size: usize, random: &mut Random) -> Vec<u8> {
-    let text: Vec<u8> = (3..size).map(|_| random.byte().max(1)).collect();
-    [&(text.len() as u16).to_le_bytes(), &text[..], &[0]].concat()
+fn string_bytes(size: usize, random: &mut Random) -> Vec<u8> {
+    string_of(&text::well_formed(size - 3, random))
+}
+
+/// Words for a rewrite that take so many bytes, at least 4, and are a string; now and then its text is ill-formed.
+pub fn string_words(size: usize, random: &mut Random) -> Vec<u8> {
+    if random.once_in(3) {
+        return string_of(&text::ill_formed(size - 3, random));
+    }
+    string_bytes(size, random)
+}
+
+/// The string of a text: its length, its bytes and a zero.
+fn string_of(text: &[u8]) -> Vec<u8> {
+    [&(text.len() as u16).to_le_bytes(), text, &[0]].concat()
 }
 
 /// Makes a footer of the last bytes, whatever they are: its sign and its version, and now and then that it has no strings.
@@ -276,7 +308,7 @@ fn header_in_header(parts: &Parts, placed: &mut Placed, random: &mut Random) {
 
 /// Puts one fault of some kind into the image; some leave it valid.
 fn spoil(parts: &Parts, placed: &mut Placed, random: &mut Random) {
-    match random.below(15) {
+    match random.below(if parts.footer.is_some() { 17 } else { 15 }) {
         0 => resize(&mut placed.image, random),
         1 => spoil_byte(&mut placed.image, 0, 3, random),
         2 => spoil_field(&mut placed.image, 9, &[1, 15, 16, 17, 32, 255], random),
@@ -291,7 +323,8 @@ fn spoil(parts: &Parts, placed: &mut Placed, random: &mut Random) {
         11 => spoil_field(&mut placed.image, 12 + random.below(4), &[0, 1, 255], random),
         12 => flip_flag(&mut placed.image, random),
         13 => bare(&mut placed.image, random),
-        _ => flip_bytes(&mut placed.image, random),
+        14 => flip_bytes(&mut placed.image, random),
+        _ => spoil_text(parts, placed, random),
     }
 }
 
@@ -361,20 +394,53 @@ fn bare(image: &mut Vec<u8>, random: &mut Random) {
 /// A string misplaced or malformed.
 fn spoil_string(edition: Edition, image: &mut [u8], random: &mut Random) {
     let Some(footer) = image.len().checked_sub(FOOTER_SIZE) else { return };
-    let slot = footer + 4 * random.below(6);
-    let offset = number_at(image, slot) as usize;
-    match random.below(5) {
-        0 => spoil_byte(image, offset, 2, random),
-        1 => set(image, offset + 2 + random.below(9), &[0]),
-        2 => set(image, offset + 2 + random.below(9), &[1]),
+    match (random.below(5), some_text(image, random)) {
+        (0, Some((place, _))) => spoil_byte(image, place - 2, 2, random),
+        (1, Some((place, size))) => set(image, place + random.below(size + 1), &[0]),
+        (2, Some((place, size))) => set(image, place + size, &[random.byte().max(1)]),
         _ => {
             let near = random.below(5) as u32;
             let low = edition.table_end() as u32 - 3;
             let values = [near, low + near, (footer as u32).wrapping_sub(near), footer as u32 + near, u32::MAX - near];
             let offset = random.pick(&values);
-            set(image, slot, &offset.to_le_bytes());
+            set(image, footer + 4 * random.below(6), &offset.to_le_bytes());
         }
     }
+}
+
+/// Ill-formed text in one string or several; now and then a string that is misplaced or malformed besides, or a faulty track.
+fn spoil_text(parts: &Parts, placed: &mut Placed, random: &mut Random) {
+    if texts(&placed.image).iter().all(|&(_, size)| size == 0) {
+        string_in_flux(parts, placed, random);
+    }
+    let mut texts = texts(&placed.image);
+    texts.retain(|&(_, size)| size > 0);
+    random.shuffle(&mut texts);
+    texts.truncate(random.pick(&[1, 1, 2, 6]));
+    for (place, size) in texts {
+        set(&mut placed.image, place, &text::ill_formed(size, random));
+    }
+    match random.below(8) {
+        0..=2 => spoil_string(parts.edition, &mut placed.image, random),
+        3 => spoil_entry(parts.edition, &mut placed.image, random),
+        4 => spoil_track(parts, placed, random),
+        5 => spoil_revolution(parts, placed, random),
+        _ => (),
+    }
+}
+
+/// One of the texts of an image, if there is any.
+fn some_text(image: &[u8], random: &mut Random) -> Option<(usize, usize)> {
+    let texts = texts(image);
+    (!texts.is_empty()).then(|| random.pick(&texts))
+}
+
+/// The texts of the strings that the last bytes, as a footer, name and that lie before them: the place and the size of each.
+fn texts(image: &[u8]) -> Vec<(usize, usize)> {
+    let Some(footer) = image.len().checked_sub(FOOTER_SIZE) else { return Vec::new() };
+    let offsets = (0..6).map(|string| number_at(image, footer + 4 * string) as usize).filter(|&offset| offset != 0);
+    let texts = offsets.map(|offset| (offset + 2, number_at(image, offset) as usize % 65_536));
+    texts.filter(|&(place, size)| place + size < footer).collect()
 }
 
 /// An entry of the table: another value, another slot.

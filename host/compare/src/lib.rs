@@ -1,7 +1,7 @@
 //! The proved libraries beside the independent readers, for SCP and for DSK images.
 //!
-//! A case is an input by chance (an image, flux, times, an image with a sequence of calls, or bytes that an image is written over) with the
-//! questions that are put to both.
+//! A case is an input by chance (an image, flux, times, a text, an image with a sequence of calls, or bytes that an image is written over)
+//! with the questions that are put to both.
 //! SCP images are laid out for either edition, and every question about one is put by both. Beside a direct call stands the library's full
 //! one, and beside a call for closing words its plain one and its steps. Some sequences are taken back to the first image.
 //! Cases are numbered; a seed and a number give the same case again. The modules of DSK images are those with `dsk` in their name.
@@ -31,4 +31,5 @@ pub mod question;
 pub mod random;
 pub mod sequence;
 pub mod shrink;
+pub mod text;
 pub mod undo;

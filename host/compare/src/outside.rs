@@ -73,6 +73,11 @@ pub const READ_WRITE: Style = Style { flags: 0x31, revolutions: 1, timestamp: ""
 
 /// The image of a style, with so many words a revolution.
 pub fn image(style: &Style, words: usize) -> Vec<u8> {
+    with_strings(style, words, [None, None, None, None, Some(style.application.as_bytes().to_vec()), None])
+}
+
+/// The same with other strings, where it has a footer.
+pub fn with_strings(style: &Style, words: usize, strings: [Option<Vec<u8>>; 6]) -> Vec<u8> {
     let mut random = Random::new(4711);
     let step = if style.heads == 0 { 1 } else { 2 };
     let first = u8::from(style.heads == 2);
@@ -82,9 +87,8 @@ pub fn image(style: &Style, words: usize) -> Vec<u8> {
     for number in (first..=style.last_track).step_by(step) {
         tracks.push(TrackPart { number, revolutions: (0..style.revolutions).map(|_| revolution(&mut random)).collect() });
     }
-    let application = [None, None, None, None, Some(style.application.as_bytes().to_vec()), None];
     let footer = (style.flags & 0x20 != 0).then_some(FooterPart {
-        strings: application,
+        strings,
         created: 1_767_608_067,
         modified: 1_767_608_067,
         versions: [0x22, 0x12, 0x13, 0x16],
@@ -107,12 +111,13 @@ pub fn image(style: &Style, words: usize) -> Vec<u8> {
     parts.build(&mut random).image
 }
 
-/// A string of five characters, and one without its closing zero.
+/// A string of five characters, one without its closing zero, and one with the byte that the text's example has for "a": ill-formed.
 pub const STRING: &[u8; 8] = b"\x05\0Amiga\0";
 pub const NO_STRING: &[u8; 8] = b"\x05\0Amigas";
+pub const ILL_FORMED: &[u8; 8] = b"\x05\0Amig\x97\0";
 
-/// One track of two revolutions of four words: those of the first are also the fifth string of the footer, if they are a string. If not, the
-/// image opens by 1.4 alone.
+/// One track of two revolutions of four words: those of the first are also the fifth string of the footer, if they are a string of
+/// well-formed text. If not, the image opens by 1.4 alone.
 pub fn string_in_flux(words: &[u8; 8]) -> Vec<u8> {
     let mut image = image(&Style { last_track: 0, revolutions: 2, timestamp: "", ..CAPTURE }, 4);
     let flux = scp::revolution(&image, Edition::V1_4, 0, 0).expect("it is there").offset;

@@ -2,7 +2,7 @@
 
 use crate::cases::{present_tracks, revolutions, some_flux, some_revolution, some_track};
 use crate::edition::{opening, some_row_number};
-use crate::generate::{duration, string_bytes};
+use crate::generate::{duration, string_words};
 use crate::random::Random;
 use crate::sequence::{Calls, ANSWER, CALL, LENGTH, REWRITE};
 use scp::{raw, Edition};
@@ -111,8 +111,8 @@ fn some_words(held: usize, fewer: bool, random: &mut Random) -> Vec<u8> {
         1..=5 if fewer => random.between(0, held),
         _ => held,
     };
-    if count > 1 && random.once_in(8) {
-        return string_bytes(2 * count, random);
+    if count > 1 && random.once_in(5) {
+        return string_words(2 * count, random);
     }
     let mut words = some_flux(count, random);
     if random.once_in(24) {

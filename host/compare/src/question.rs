@@ -31,12 +31,13 @@ pub enum Asked {
 }
 
 /// A call with its arguments: on an image by the edition that a number names, a sequence of such calls, one that is taken back, or a call on
-/// flux or times. Lists that are filled are named by their sizes.
+/// a text, on flux or on times. Lists that are filled are named by their sizes.
 #[derive(Clone, Debug, PartialEq, Eq)]
 pub enum Question {
     OnImage { edition: u32, asked: Asked },
     Sequence { calls: Vec<u64>, words: Vec<u8>, places: usize },
     Undo { calls: Vec<u64>, words: Vec<u8> },
+    ValidUpTo { places: usize },
     Step { word: u64, places: usize },
     Intervals { times: usize, places: usize },
     ClosedIntervals { times: usize, closings: usize, places: usize },
@@ -76,7 +77,7 @@ pub struct Agreed {
 }
 
 /// An answer, and every number of refusal.
-const NUMBERS: &[u32] = &[0, 1, 2, 3, 4, 5, 6, 7, 8, 9, 10, 11, 12, 13, 14, 15, 16, 17, 18];
+const NUMBERS: &[u32] = &[0, 1, 2, 3, 4, 5, 6, 7, 8, 9, 10, 11, 12, 13, 14, 15, 16, 17, 18, 19];
 
 /// Where the kinds of calls and of rows stand: by revision 1.4, and directly behind it by 1.6.
 const CALLS: usize = 0;
@@ -87,8 +88,11 @@ const FLUX_AND_TIMES: usize = 7;
 const CLOSING_WORDS: usize = 8;
 const TAKEN_BACK: usize = 9;
 
+/// Where the tests of texts stand: of ill-formed ones, and directly behind it of well-formed ones.
+const TEXTS: usize = 10;
+
 /// What a direct call never gives: footer, strings and checksum are not looked at, and nothing is written.
-const NEVER_DIRECTLY: &[u32] = &[7, 8, 12, 16, 17, 18];
+const NEVER_DIRECTLY: &[u32] = &[7, 8, 12, 16, 17, 18, 19];
 
 /// A kind by an edition, where some numbers of refusal never come up.
 const fn kind(all: &'static str, one: &'static str, never: &'static [u32]) -> Kind {
@@ -104,25 +108,27 @@ impl Ask for Question {
     type Agreed = Agreed;
 
     /// Single calls on images, direct ones apart, and the rows of replays, each by both editions; replays as a whole; calls on flux and
-    /// times, those for closing words apart; sequences that are taken back.
+    /// times, those for closing words apart; sequences that are taken back; tests of texts, ill-formed and well-formed ones apart.
     const KINDS: &'static [Kind] = &[
-        kind("single calls by 1.4 (none is refused with 7, 8 or 16)", "single call by 1.4", &[7, 8, 16]),
+        kind("single calls by 1.4 (none is refused with 7, 8, 16 or 19)", "single call by 1.4", &[7, 8, 16, 19]),
         kind("single calls by 1.6 (none is refused with 16)", "single call by 1.6", &[16]),
-        kind("direct calls by 1.4 (none is refused with 7, 8, 12, 16, 17 or 18)", "direct call by 1.4", NEVER_DIRECTLY),
-        kind("direct calls by 1.6 (none is refused with 7, 8, 12, 16, 17 or 18)", "direct call by 1.6", NEVER_DIRECTLY),
-        kind("rows of replays by 1.4 (none is refused with 7, 8, 15 or 16)", "row of a replay by 1.4", &[7, 8, 15, 16]),
+        kind("direct calls by 1.4 (none is refused with 7, 8, 12 or 16 to 19)", "direct call by 1.4", NEVER_DIRECTLY),
+        kind("direct calls by 1.6 (none is refused with 7, 8, 12 or 16 to 19)", "direct call by 1.6", NEVER_DIRECTLY),
+        kind("rows of replays by 1.4 (none is refused with 7, 8, 15, 16 or 19)", "row of a replay by 1.4", &[7, 8, 15, 16, 19]),
         kind("rows of replays by 1.6 (none is refused with 15 or 16)", "row of a replay by 1.6", &[15, 16]),
         Kind { all: "replays", one: "replay", numbers: &[0, 15], never: &[] },
         Kind { all: "calls on flux and times", one: "call on flux or times", numbers: &[0, 15, 16, 17], never: &[] },
         Kind { all: "calls for closing words", one: "call for closing words", numbers: &[0, 15, 17], never: &[] },
         Kind { all: "sequences taken back (17 after fewer words)", one: "sequence taken back", numbers: &[0, 17], never: &[] },
+        Kind { all: "tests of ill-formed texts", one: "test of an ill-formed text", numbers: &[0, 15], never: &[] },
+        Kind { all: "tests of well-formed texts", one: "test of a well-formed text", numbers: &[0, 15], never: &[] },
     ];
 
     fn compare(&self, bytes: &[u8]) -> Result<Agreed, Difference> {
         compare(bytes, self)
     }
 
-    fn counted(&self, _bytes: &[u8], agreed: &Agreed) -> Vec<(usize, u32)> {
+    fn counted(&self, bytes: &[u8], agreed: &Agreed) -> Vec<(usize, u32)> {
         match self {
             Question::OnImage { edition, asked } => vec![(by_edition(asked.kind(), (*edition).into()), agreed.number)],
             Question::Sequence { calls, .. } => {
@@ -134,6 +140,7 @@ impl Ask for Question {
             Question::ClosedIntervals { .. } => vec![(CLOSING_WORDS, agreed.number)],
             Question::Undo { .. } if agreed.rows.is_empty() => Vec::new(),
             Question::Undo { .. } => vec![(TAKEN_BACK, agreed.number)],
+            Question::ValidUpTo { .. } => vec![(TEXTS + usize::from(std::str::from_utf8(bytes).is_ok()), agreed.number)],
         }
     }
 
@@ -153,12 +160,13 @@ impl Ask for Question {
     }
 }
 
-/// Puts the question about these bytes (an image, or flux) to both.
+/// Puts the question about these bytes (an image, a text, or flux) to both.
 pub fn compare(bytes: &[u8], question: &Question) -> Result<Agreed, Difference> {
     let number = match question {
         Question::OnImage { edition, asked } => on_image(bytes, *edition, asked),
         Question::Sequence { calls, words, places } => return sequence::compare(bytes, calls, words, *places),
         Question::Undo { calls, words } => return undo::compare(bytes, calls, words),
+        Question::ValidUpTo { places } => valid_up_to(bytes, *places),
         Question::Step { word, places } => step(bytes, *word, *places),
         Question::Intervals { times, places } => intervals(bytes, *times, *places),
         Question::ClosedIntervals { times, closings, places } => closed_intervals(bytes, (*times, *closings), *places),
@@ -305,6 +313,15 @@ fn rewrite(bytes: &[u8], edition: u32, (track, revolution): (u32, u32), duration
     Ok(number)
 }
 
+/// How far a text is well-formed.
+fn valid_up_to(text: &[u8], places: usize) -> Result<u32, Difference> {
+    let lent = Guarded::new(text, BYTE);
+    let expected = Ok::<_, reader::Refusal>(vec![reader::valid_up_to(text) as u64]);
+    let number = fill(expected, places, NUMBER, |out| raw::valid_up_to(lent.contents(), out))?;
+    same("the text", &lent, text)?;
+    Ok(number)
+}
+
 /// A step over flux.
 fn step(flux: &[u8], word: u64, places: usize) -> Result<u32, Difference> {
     let lent = Guarded::new(flux, BYTE);
@@ -353,15 +370,15 @@ mod tests {
 
     #[test]
     fn every_number_is_counted_but_those_that_never_come_up() {
-        let all: Vec<u32> = (0..=18).collect();
+        let all: Vec<u32> = (0..=19).collect();
         assert_eq!(scp::Reason::ALL.map(|reason| u32::from(reason.number())), all[1..]);
         let by_editions = &Question::KINDS[..6];
         assert!(by_editions.iter().all(|kind| kind.numbers == all));
         let never: Vec<&[u32]> = by_editions.iter().map(|kind| kind.never).collect();
-        let direct: &[u32] = &[7, 8, 12, 16, 17, 18];
-        assert_eq!(never, [&[7, 8, 16], &[16][..], direct, direct, &[7, 8, 15, 16], &[15, 16]]);
+        let direct: &[u32] = &[7, 8, 12, 16, 17, 18, 19];
+        assert_eq!(never, [&[7, 8, 16, 19], &[16][..], direct, direct, &[7, 8, 15, 16, 19], &[15, 16]]);
         let others: Vec<&[u32]> = Question::KINDS[6..].iter().map(|kind| kind.numbers).collect();
-        assert_eq!(others, [&[0, 15], &[0, 15, 16, 17][..], &[0, 15, 17], &[0, 17]]);
+        assert_eq!(others, [&[0, 15], &[0, 15, 16, 17][..], &[0, 15, 17], &[0, 17], &[0, 15], &[0, 15]]);
         assert!(Question::KINDS[6..].iter().all(|kind| kind.never.is_empty()));
     }
 
@@ -383,7 +400,8 @@ mod tests {
         let names = Question::KINDS.iter().map(|kind| kind.one).collect::<Vec<_>>();
         assert_eq!(names[..4], ["single call by 1.4", "single call by 1.6", "direct call by 1.4", "direct call by 1.6"]);
         assert_eq!(names[4..7], ["row of a replay by 1.4", "row of a replay by 1.6", "replay"]);
-        assert_eq!(names[7..], ["call on flux or times", "call for closing words", "sequence taken back"]);
+        assert_eq!(names[7..10], ["call on flux or times", "call for closing words", "sequence taken back"]);
+        assert_eq!(names[10..], ["test of an ill-formed text", "test of a well-formed text"]);
     }
 
     #[test]
@@ -402,5 +420,11 @@ mod tests {
             assert_eq!(kind(other), [(7, 15)]);
         }
         assert_eq!(kind(Question::Words { times: Vec::new(), room: 0, places }), [(7, 15)]);
+    }
+
+    #[test]
+    fn tests_of_ill_formed_texts_count_apart_from_others() {
+        let counted = |text: &[u8]| Question::ValidUpTo { places: 1 }.counted(text, &Agreed { number: 0, rows: Vec::new() });
+        assert_eq!((counted(b"a\x97"), counted(b"a"), counted(b"")), (vec![(10, 0)], vec![(11, 0)], vec![(11, 0)]));
     }
 }

@@ -105,6 +105,7 @@ fn what_is_wrong_elsewhere_does_not_matter() {
         ("a string in the table", put(footer + 4 * 5, &[16, 0, 0, 0]), [None, Some((8, 5))]),
         ("a string with a zero byte", put(string + 3, &[0]), [None, Some((8, 4))]),
         ("a string that is not closed", put(string, &[27, 0]), [None, Some((8, 4))]),
+        ("a string that is no text", put(string + 3, &[0x97]), [None, Some((19, 4))]),
         ("an entry past the end track", put(entry_at(4), &[0xB0, 2, 0, 0]), [Some((9, 4)), Some((9, 4))]),
         ("an entry that 1.4 does not have", put(entry_at(166), &[0xB0, 2, 0, 0]), [None, Some((9, 166))]),
         ("another track far away", put(entry_at(1), &[0xFF; 4]), [Some((10, 1)), Some((10, 1))]),

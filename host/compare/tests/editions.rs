@@ -204,6 +204,7 @@ fn a_footer_means_nothing_by_1_4() {
         ("a string in the footer", put(application, &(footer as u32).to_le_bytes()), [None, Some((8, 4))]),
         ("a string below 688", put(application, &680u32.to_le_bytes()), [None, Some((8, 4))]),
         ("a string far away", put(application, &[0xFF; 4]), [None, Some((8, 4))]),
+        ("a string that is no text", put(number_at(&sound, application) as usize + 2, &[0x97]), [None, Some((19, 4))]),
         ("flux up to the footer", with_flux_at(&sound, footer - 60), [None, None]),
         ("flux with its last byte in the footer", with_flux_at(&sound, footer - 59), [None, Some((11, 1))]),
         ("flux up to the end", with_flux_at(&sound, end - 60), [None, Some((11, 1))]),

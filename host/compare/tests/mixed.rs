@@ -1,12 +1,12 @@
 //! Sequences of calls that name both editions: what the claim says of every sequence, on many by chance, and examples that show why it
 //! says more of those alone that name one edition throughout.
 
-use scp::Edition;
+use scp::{Edition, Reason};
 use scp_compare::cases;
 use scp_compare::edition::{of_row, opens};
 use scp_compare::generate;
 use scp_compare::image::{checksum_kept, duration_at, entry_at, number_at, CHECKSUM};
-use scp_compare::outside::{string_in_flux, NO_STRING, STRING};
+use scp_compare::outside::{string_in_flux, ILL_FORMED, NO_STRING, STRING};
 use scp_compare::random::Random;
 use scp_compare::sequence::{self, arguments, words_of, ANSWER, CALL, DURATION, EDITION, REWRITE};
 use std::collections::BTreeMap;
@@ -40,7 +40,6 @@ fn call(edition: Edition, kind: u64, revolution: u64) -> [u64; CALL] {
 fn a_rewrite_by_1_4_can_break_what_1_6_reads() {
     use Edition::{V1_4, V1_6};
     let before = string_in_flux(STRING);
-    let mut image = before.clone();
     let calls = [
         call(V1_6, REVOLUTION, 1),
         call(V1_6, REWRITE, 0),
@@ -50,19 +49,24 @@ fn a_rewrite_by_1_4_can_break_what_1_6_reads() {
         call(V1_4, VALIDATE, 0),
     ];
     // by 1.6 the string claims the words; by 1.4 nothing does, and then the image opens no more by 1.6
-    assert_eq!(run(&mut image, &calls.concat(), NO_STRING), [[0, 0], [18, 0], [0, 0], [8, 4], [0, 0], [0, 0]]);
-    // the other revolution reads as before by the rewrite's edition
-    assert_eq!(scp::revolution(&image, V1_4, 0, 1), scp::revolution(&before, V1_6, 0, 1));
-    assert_eq!(scp::flux(&image, V1_4, 0, 1), scp::flux(&before, V1_6, 0, 1));
+    for (words, number) in [(NO_STRING, 8), (ILL_FORMED, 19)] {
+        let mut image = before.clone();
+        assert_eq!(run(&mut image, &calls.concat(), words), [[0, 0], [18, 0], [0, 0], [number, 4], [0, 0], [0, 0]]);
+        // the other revolution reads as before by the rewrite's edition
+        assert_eq!(scp::revolution(&image, V1_4, 0, 1), scp::revolution(&before, V1_6, 0, 1));
+        assert_eq!(scp::flux(&image, V1_4, 0, 1), scp::flux(&before, V1_6, 0, 1));
+    }
 }
 
 #[test]
 fn a_rewrite_by_1_4_can_open_what_1_6_refuses() {
     use Edition::{V1_4, V1_6};
-    let mut image = string_in_flux(NO_STRING);
     let calls =
         [call(V1_6, VALIDATE, 0), call(V1_6, REWRITE, 0), call(V1_4, REWRITE, 0), call(V1_6, VALIDATE, 0), call(V1_6, REVOLUTION, 1)];
-    assert_eq!(run(&mut image, &calls.concat(), STRING), [[8, 4], [8, 4], [0, 0], [0, 0], [0, 0]]);
+    for (words, number) in [(NO_STRING, 8), (ILL_FORMED, 19)] {
+        let mut image = string_in_flux(words);
+        assert_eq!(run(&mut image, &calls.concat(), STRING), [[number, 4], [number, 4], [0, 0], [0, 0], [0, 0]]);
+    }
 }
 
 // ---- every sequence
@@ -163,11 +167,12 @@ fn check_one_edition(first: &[u8], last: &[u8], calls: &[u64]) {
 #[test]
 fn what_the_claim_says_holds_of_every_sequence() {
     let mut random = Random::new(14);
-    let (mut accepted, mut broken, mut mended) = ([0; 2], 0, 0);
+    let (mut accepted, mut broken, mut mended, mut texts) = ([0; 2], 0, 0, 0);
     for number in 0..50_000 {
         let first = match number % 10 {
             0 => string_in_flux(STRING),
             1 => string_in_flux(NO_STRING),
+            2 => string_in_flux(ILL_FORMED),
             _ => generate::image(&mut random),
         };
         let (calls, words) = cases::sequence(&first, &mut random);
@@ -175,12 +180,11 @@ fn what_the_claim_says_holds_of_every_sequence() {
         check_one_edition(&first, &last, &calls);
         let mixed = !Edition::ALL.into_iter().any(|edition| all_name(edition, &calls));
         accepted[usize::from(mixed)] += rewrites;
-        match [&first, &last].map(|image| opens(image, Edition::V1_6)) {
-            [true, false] => broken += 1,
-            [false, true] => mended += 1,
-            _ => (),
-        }
+        let refused = [&first, &last].map(|image| scp::header(image, Edition::V1_6).err().map(|refusal| refusal.reason));
+        broken += u32::from(matches!(refused, [None, Some(_)]));
+        mended += u32::from(matches!(refused, [Some(_), None]));
+        texts += u32::from(matches!(refused, [None, Some(Reason::Text)] | [Some(Reason::Text), None]));
     }
-    let enough = accepted.iter().all(|&rewrites| rewrites > 1000) && broken > 100 && mended > 50;
-    assert!(enough, "{accepted:?} accepted, {broken} broken, {mended} mended");
+    let enough = accepted.iter().all(|&rewrites| rewrites > 1000) && broken > 100 && mended > 50 && texts > 50;
+    assert!(enough, "{accepted:?} accepted, {broken} broken, {mended} mended, of both {texts} by a text");
 }

@@ -9,7 +9,7 @@ use scp_compare::edition::{opening, opens};
 use scp_compare::generate;
 use scp_compare::image::{is_read_write, set, store_checksum, CHECKSUM};
 use scp_compare::outside::{image, Style, CAPTURE, CAPTURE_1_4, FULL_1_4, OLD_CAPTURE, READ_WRITE, READ_WRITE_1_4, SINGLE_SIDED};
-use scp_compare::outside::{stored_images, string_in_flux, NO_STRING, STRING};
+use scp_compare::outside::{stored_images, string_in_flux, ILL_FORMED, NO_STRING, STRING};
 use scp_compare::patches::{patches, rewrites};
 use scp_compare::random::Random;
 use scp_compare::sequence::{numbers, run, Calls, ANSWER, CALL, EDITION, REWRITE};
@@ -89,18 +89,20 @@ fn each_rewrite_is_taken_back_by_its_own_edition() {
     let image = string_in_flux(STRING);
     let call = |edition: Edition, revolution| [REWRITE, 0, revolution, 7_000_000, 0, 8, edition.number().into()];
     // the second rewrite closes the image to 1.6, by which the first one was made
-    let taken = by_both(&image, &[call(V1_6, 1), call(V1_4, 0)].concat(), NO_STRING).unwrap();
-    assert!(opens(&image, V1_6) && !opens(&taken.last, V1_6));
-    assert_eq!(taken.end, image);
-    // so the way back is refused by 1.6 alone, and its second half before the first
-    let (back, words) = &taken.undo;
-    let mut by_1_6 = back.clone();
-    by_1_6[EDITION] = V1_6.number().into();
-    let swapped = [&back[CALL..], &back[..CALL]].concat();
-    for (calls, refused) in [(by_1_6, [8, 8]), (swapped, [8, 0])] {
-        let ran = run(&taken.last, &calls, words, 2 * ANSWER).unwrap();
-        assert_eq!(numbers(&ran.answers), refused);
-        assert_ne!(ran.image, image);
+    for (no_text, number) in [(NO_STRING, 8), (ILL_FORMED, 19)] {
+        let taken = by_both(&image, &[call(V1_6, 1), call(V1_4, 0)].concat(), no_text).unwrap();
+        assert!(opens(&image, V1_6) && !opens(&taken.last, V1_6));
+        assert_eq!(taken.end, image);
+        // so the way back is refused by 1.6 alone, and its second half before the first
+        let (back, words) = &taken.undo;
+        let mut by_1_6 = back.clone();
+        by_1_6[EDITION] = V1_6.number().into();
+        let swapped = [&back[CALL..], &back[..CALL]].concat();
+        for (calls, refused) in [(by_1_6, [number, number]), (swapped, [number, 0])] {
+            let ran = run(&taken.last, &calls, words, 2 * ANSWER).unwrap();
+            assert_eq!(numbers(&ran.answers), refused);
+            assert_ne!(ran.image, image);
+        }
     }
 }
 
@@ -111,6 +113,7 @@ fn some_image(random: &mut Random) -> Vec<u8> {
     let mut image = match random.below(16) {
         0 => string_in_flux(STRING),
         1 => string_in_flux(NO_STRING),
+        2 => string_in_flux(ILL_FORMED),
         _ => generate::image(random),
     };
     if present_tracks(&image).is_empty() || opening(&image).is_empty() {
@@ -143,6 +146,7 @@ fn shown(first: &[u8], refused: &[u32], taken: &TakenBack) -> Vec<(&'static str,
     let [by_1_4, by_1_6] = Edition::ALL.map(|edition| patches.iter().any(|patch| patch.edition == edition));
     let rewritten: BTreeSet<_> = patches.iter().map(|patch| (patch.track, patch.revolution)).collect();
     let [opened, opens] = [first, &taken.last].map(|image| opens(image, V1_6));
+    let ill_formed = [first, &taken.last].map(|image| scp::header(image, V1_6).err().map(|refusal| refusal.reason) == Some(Reason::Text));
     vec![
         ("read-only, sound", !is_read_write(first) && sound),
         ("read-only, damaged", !is_read_write(first) && !sound),
@@ -161,6 +165,7 @@ fn shown(first: &[u8], refused: &[u32], taken: &TakenBack) -> Vec<(&'static str,
         ("ten rewrites", patches.len() >= 10),
         ("closed to 1.6", opened && !opens),
         ("opened to 1.6", !opened && opens),
+        ("opened or closed to 1.6 by a text", ill_formed[0] && opens || opened && ill_formed[1]),
     ]
 }
 

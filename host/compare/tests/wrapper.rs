@@ -100,6 +100,9 @@ fn agree(image: &[u8], edition: Edition, k: u32) {
     assert_eq!(plain(scp::validate(image, edition)), other(reader::validate(image, v)));
     assert_eq!(plain(scp::header(image, edition)), other(reader::header(image, v)).map(header));
     assert_eq!(plain(scp::footer(image, edition)), other(reader::footer(image, v)).map(|found| found.map(footer)));
+    for offset in scp::footer(image, edition).ok().flatten().map_or([0; 6], |found| found.strings) {
+        assert_eq!(scp::text(image, offset).map(str::as_bytes), scp::string(image, offset));
+    }
     let present = present(image, edition);
     assert_eq!(plain(scp::tracks(image, edition)), other(reader::header(image, v)).map(|_| present.clone()));
     let t = present.first().copied().unwrap_or(168);
