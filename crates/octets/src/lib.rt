@@ -1,5 +1,7 @@
 // Numbers in bytes, read and put, and the byte sum (N-1 to N-6, N-9). Each function is total: past the end a byte reads 0, and a number that
 // does not fit whole is not put.
+#![tactic(auto)]
+
 ghost use Rattle.std.specs.Prelude.{◌≡◌, ◌+◌, ◌*◌, ◌%◌, ◌<◌, ◌≤◌, [], ◌∷◌, length, drop, nat_le};
 ghost use Rattle.std.proofs.lemmas.List.Edits.{sets};
 ghost use Rattle.octets.specs.Numbers.{

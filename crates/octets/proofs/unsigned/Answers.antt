@@ -4,8 +4,7 @@ use Rattle.std.proofs.Common.{◌≡◌, ℕ, suc, ◌-◌, ◌^◌, ◌<◌, tr
 use mir.Facts.{to_z_pos}
 use lib.Signed.{mag, lt_z}
 use Rattle.octets.specs.Numbers.{unsigned64}
-use Rattle.octets.proofs.unsigned.Statement.{statement}
-use Rattle.octets.proofs.unsigned.Tie as tie
+use Rattle.octets.proofs.unsigned.Goals as goal
 
 -- What the code asks of a negative number.
 record Below (z : ℤ) : Type 0 where
@@ -33,28 +32,25 @@ above (negsuc n) h t =
     let n : ⊥ = omega arith in
     absurd n
 
-cast-result : tie.Need-overflow-cast-result
-cast-result c =
-    let b = below c.before.args.v c.before.ranges.v.sfits c.if1.true in
-    rw b.flipped (tt, record { fits = omega (arith, c.before.ranges.v.sfits) })
+pub overflow_cast-result : goal.overflow_cast-result
+overflow_cast-result c =
+    let b = below c.args.v c.ranges.v.sfits c.if-v-lt0.true in
+    rw b.flipped (tt, record { fits = omega (arith, c.ranges.v.sfits) })
 
-sub-result : tie.Need-overflow-sub-result
-sub-result c =
-    let b = below c.before.args.v c.before.ranges.v.sfits c.if1.true in
-    rw b.flipped (omega (arith, c.before.ranges.v.sfits))
+pub overflow_sub-result : goal.overflow_sub-result
+overflow_sub-result c =
+    let b = below c.args.v c.ranges.v.sfits c.if-v-lt0.true in
+    rw b.flipped (omega (arith, c.ranges.v.sfits))
 
-returns : tie.Need-returns
+pub returns-then-v-lt0 : goal.returns-then-v-lt0
+returns-then-v-lt0 c =
+    let b = below c.args.v c.ranges.v.sfits c.if-v-lt0.true in rw b.flipped b.told
+
+pub overflow_cast-result-2 : goal.overflow_cast-result-2
+overflow_cast-result-2 c =
+    let a = above c.args.v c.ranges.v.sfits c.if-v-lt0.false in
+    rw a.same (tt, record { fits = omega (arith, c.ranges.v.sfits) })
+
+pub returns : goal.returns
 returns c =
-    let b = below c.before.args.v c.before.ranges.v.sfits c.if1.true in rw b.flipped b.told
-
-cast-result-2 : tie.Need-overflow-cast-result-2
-cast-result-2 c =
-    let a = above c.before.args.v c.before.ranges.v.sfits c.if1.false in
-    rw a.same (tt, record { fits = omega (arith, c.before.ranges.v.sfits) })
-
-returns-2 : tie.Need-returns-2
-returns-2 c =
-    let a = above c.before.args.v c.before.ranges.v.sfits c.if1.false in rw a.same a.told
-
-pub unsigned-spec : {M : Type 1} → statement M
-unsigned-spec = tie.close (tie.spec cast-result sub-result returns cast-result-2 returns-2)
+    let a = above c.args.v c.ranges.v.sfits c.if-v-lt0.false in rw a.same a.told

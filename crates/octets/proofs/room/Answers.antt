@@ -1,8 +1,7 @@
 -- `octets::room` meets its contract: fewer than n bytes hold no n of them, and else n is taken from one side instead of added to the other.
 use Rattle.std.proofs.Common.{◌≡◌, ℕ, ◌+◌, ◌-◌, ◌<◌, ◌≤◌, Bool, true, false, leb, sym, refl, arith, le-leb, leb-false, leb-true}
 use borrow.Author.Tests.{lt-leb}
-use Rattle.octets.proofs.room.Statement.{statement}
-use Rattle.octets.proofs.room.Tie as tie
+use Rattle.octets.proofs.room.Goals as goal
 
 moved : (a n l : ℕ) → n ≤ l → leb a (l - n) ≡ leb (a + n) l
 moved a n l h = go (leb a (l - n)) refl
@@ -20,11 +19,8 @@ moved a n l h = go (leb a (l - n)) refl
 short : (a n l : ℕ) → l < n → false ≡ leb (a + n) l
 short a n l h = let f : l < a + n = omega arith in sym (lt-leb _ _ f)
 
-returns : tie.Need-returns
-returns c = short c.before.args.at _ _ c.if1.true
+pub returns-then-len-n : goal.returns-then-len-n
+returns-then-len-n c = short c.args.at _ _ c.if-len-n.true
 
-returns-2 : tie.Need-returns-2
-returns-2 c = moved c.before.args.at _ _ c.if1.false
-
-pub room-spec : {M : Type 1} → statement M
-room-spec = tie.close (tie.spec returns returns-2)
+pub returns : goal.returns
+returns c = moved c.args.at _ _ c.if-len-n.false
