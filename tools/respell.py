@@ -21,7 +21,7 @@ FIELD = re.compile(r"^ +(?:pub )?([a-z][\w']*(?:-[\w']+)+) : ", re.M)
 GOAL = re.compile(r"^(?:abbrev )?([a-z][\w'-]*) : (?:goal|tie)\.", re.M)
 SPEC = re.compile(r"^pub ([a-z][\w'-]*-spec) : ", re.M)
 # names that antt, its library or Rattle spell so
-LEFT = {"ownVal"}
+LEFT = {"ownVal", "or-false", "sets-eq"}
 # new names that a module of the library has, which is imported beside the lemma
 TAKEN = {"in_float"}
 
@@ -50,7 +50,7 @@ def main():
         goals |= set(GOAL.findall(text)) | set(SPEC.findall(text))
         for name in [*DECLARED.findall(text), *FIELD.findall(text)]:
             (lemmas if "-" in name else plain).add(name)
-    lemmas -= goals
+    lemmas -= goals | LEFT
     taken = TAKEN | {snake(n) for n in camel} | {n for n in plain if n not in camel}
     table = {n: snake(n) for n in camel}
     for name in sorted(lemmas):

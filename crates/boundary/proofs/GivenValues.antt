@@ -5,7 +5,7 @@ use mathlib.Core.List.{List, ◌++◌}
 use mathlib.Core.Bool.{Bool, true, false, cond}
 use native.Mathlib.Omega.{arith}
 use lib.ListN.{length, drop}
-use lib.Seq.{sets, sets_eq}
+use lib.Seq.{sets, sets-eq}
 use borrow.Author.Tests.{leb-true, leb-false, lt-ltb, le-ltb}
 use Rattle.copies.specs.Copying.{fits_at, copied_at}
 use Rattle.boundary.specs.Boundary.{refuses, gives, code_of, within, out_after}
@@ -20,7 +20,7 @@ module _ {A : Type 0} (old vs : List A) {out : List A} (left : out ≡ copied_at
       let room : 0 + length vs ≤ length old = leb-true _ _ (sym t) in
       let e : within (length old) (gives vs) ≡ gives vs = simp (le-ltb (length old) (length vs) (omega arith)) in
       let n : 0 + length vs ≡ length vs = omega arith in
-      (ap code_of (sym e), left_by true (sym t) ∙ sets_eq vs old 0 room ∙ ap (λ (k : ℕ). vs ++ drop k old) n ∙ ap (out_after old) (sym e))
+      (ap code_of (sym e), left_by true (sym t) ∙ sets-eq vs old 0 room ∙ ap (λ (k : ℕ). vs ++ drop k old) n ∙ ap (out_after old) (sym e))
 
   pub not_given : false ≡ fits_at old 0 vs → (15 ≡ code_of (within (length old) (gives vs))) × (out ≡ out_after old (within (length old) (gives vs)))
   not_given t =

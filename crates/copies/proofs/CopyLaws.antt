@@ -1,12 +1,12 @@
 -- Copying value by value: the loop's invariant, its steps, and what is left at each return.
-use Prim.Native.Nat.{ℕ, suc, ◌+◌, ◌-◌, ◌<◌, ◌≤◌}
+use Prim.Native.Nat.{ℕ, suc, ◌+◌, ◌<◌, ◌≤◌}
 use mathlib.Core.Path.{◌≡◌, refl, sym, ap, ◌∙◌}
-use mathlib.Core.List.{List, ◌∷◌, ◌++◌}
+use mathlib.Core.List.{List, ◌∷◌}
 use mathlib.Core.Bool.{true, false}
 use native.Mathlib.Numerals.{add-one}
 use native.Mathlib.Omega.{arith}
 use lib.ListN.{length, get_or, set, drop, drop_of_length-le, length-set}
-use lib.Seq.{sets, sets_eq, drop-cons}
+use lib.Seq.{sets, drop-cons}
 use borrow.Author.Tests.{lt-leb, le-leb}
 use Rattle.copies.specs.Copying.{fits_at, copied_at}
 

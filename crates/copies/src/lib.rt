@@ -1,4 +1,6 @@
 // Copying a lent list into a lent buffer, for each width, or zeros: all of it, or nothing where it does not fit; and a part of lent bytes.
+#![tactic(auto)]
+
 ghost use Rattle.std.specs.Prelude.{◌≡◌, ◌+◌, replicate};
 ghost use Rattle.copies.specs.Copying.{fits_at, copied_at, part, part_start};
 

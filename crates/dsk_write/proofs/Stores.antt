@@ -4,7 +4,7 @@ use mathlib.Core.Path.{◌≡◌, refl, sym, ap, ◌∙◌}
 use mathlib.Core.List.{List, [], ◌++◌}
 use native.Mathlib.Omega.{arith}
 use lib.ListN.{length, drop}
-use lib.Seq.{sets, sets_eq, length-sets}
+use lib.Seq.{sets, sets-eq, length-sets}
 use Rattle.octets.proofs.Numbers.{sets_append}
 use Rattle.copies.specs.Copying.{copied_at}
 use Rattle.copies.proofs.CopyLaws.{copy_fits}
@@ -30,7 +30,7 @@ pub at_start : (d xs : List ℕ) → length xs ≤ length d → sets d 0 xs ≡ 
 at_start d xs h =
     let room : 0 + length xs ≤ length d = omega arith in
     let n : 0 + length xs ≡ length xs = omega arith in
-    sets_eq xs d 0 room ∙ ap (λ (k : ℕ). xs ++ drop k d) n
+    sets-eq xs d 0 room ∙ ap (λ (k : ℕ). xs ++ drop k d) n
 
 -- ---- part by part
 

@@ -2,7 +2,7 @@
 -- stops, where it goes on, and where it ends.
 use Prim.Native.Nat.{ℕ, zero, suc, ◌+◌, ◌-◌, ◌<◌, ◌≤◌}
 use mathlib.Core.Path.{◌≡◌, refl, sym, ap, ◌∙◌}
-use mathlib.Core.Bool.{Bool, true, false, ◌||◌, or_assoc, or_false}
+use mathlib.Core.Bool.{Bool, true, false, ◌||◌, or_assoc, or-false}
 use native.Mathlib.Omega.{arith}
 use borrow.Author.Tests.{eq-eqb}
 use Rattle.refusals.specs.declared.Refusal.{Refusal}
@@ -48,7 +48,7 @@ module _ (p : ℕ → Bool) where
   -- a block grows by the index behind it
   pub any_more : (i m : ℕ) → (any_from p i m || p (i + m)) ≡ any_from p i (m + 1)
   unfolding any_from
-  any_more i m = sym (any_split i m 1 ∙ ap (λ (x : Bool). any_from p i m || x) (or_false (p (i + m))))
+  any_more i m = sym (any_split i m 1 ∙ ap (λ (x : Bool). any_from p i m || x) (or-false (p (i + m))))
 
 module _ (p : ℕ → Bool) (i m : ℕ) {n : ℕ} {r : Bool} (inv : any_from p i (n - i) ≡ r) (fits : i + m ≤ n) where
   block_step : r ≡ (any_from p i m || any_from p (i + m) (n - (i + m)))

@@ -1,4 +1,6 @@
 // Why a call is refused: a number of the one table of refusals, and a position. Every format's crates stand on it.
+#![tactic(auto)]
+
 ghost use Rattle.std.specs.Prelude.{◌≡◌};
 ghost use Rattle.refusals.specs.Refusals.{none, refusal};
 

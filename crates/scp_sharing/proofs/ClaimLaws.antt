@@ -3,7 +3,7 @@ use Prim.Native.Nat.{ℕ, zero, suc, ◌+◌, ◌-◌}
 use mathlib.Core.Path.{◌≡◌, refl, sym, ap, ◌∙◌}
 use mathlib.Core.Logic.{◌≢◌}
 use mathlib.Core.List.{List, [], ◌∷◌, ◌++◌}
-use mathlib.Core.Bool.{Bool, true, false, ◌&&◌, ◌||◌, or_assoc, or_false}
+use mathlib.Core.Bool.{Bool, true, false, ◌&&◌, ◌||◌, or_assoc, or-false}
 use native.Mathlib.Omega.{arith}
 use lib.Dec.{eqb}
 use borrow.Author.Tests.{eq-eqb, ne_eqb}
@@ -58,11 +58,11 @@ module _ (p : Extent → Bool) where
         → any_of p (header_claims b t k u e)
         ≡ (p (between e (revolution_at e k)) || p (between (revolution_at e k + 8) (e + header_size b)))
     unfolding header_claims any_of
-    header_own q = simp (eq-eqb u t q, or_false)
+    header_own q = simp (eq-eqb u t q, or-false)
 
     pub header_other : u ≢ t → any_of p (header_claims b t k u e) ≡ p (extent e (header_size b))
     unfolding header_claims any_of
-    header_other q = simp (ne_eqb u t q, or_false)
+    header_other q = simp (ne_eqb u t q, or-false)
 
     pub flux_own : (j : ℕ) → (eqb u t && eqb j k) ≡ true → any_of p (flux_claim b t k u e j) ≡ false
     unfolding flux_claim any_of
@@ -70,7 +70,7 @@ module _ (p : Extent → Bool) where
 
     pub flux_other : (j : ℕ) → (eqb u t && eqb j k) ≡ false → any_of p (flux_claim b t k u e j) ≡ p (flux_extent b e j)
     unfolding flux_claim any_of
-    flux_other j q = simp (q, or_false)
+    flux_other j q = simp (q, or-false)
 
     -- where the revolution's flux x does not pass, own or not
     pub flux_missed : (j : ℕ) {x : Extent} → x ≡ flux_extent b e j → p x ≡ false → false ≡ any_of p (flux_claim b t k u e j)
@@ -97,7 +97,7 @@ module _ (p : Extent → Bool) where
 
     pub string_there : (o : ℕ) → o ≢ 0 → any_of p (string_claim b o) ≡ p (extent o (3 + le16_at b o))
     unfolding string_claim any_of
-    string_there o q = simp (ne_eqb o 0 q, or_false)
+    string_there o q = simp (ne_eqb o 0 q, or-false)
 
   module _ (v : Edition) (b : List ℕ) where
     pub footer_none : has_footer v b ≡ false → any_of p (footer_claims v b) ≡ false
