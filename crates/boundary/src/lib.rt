@@ -1,4 +1,6 @@
 // How answers pass to C and Rust: a refusal as one number, and values put to the start of a lent buffer (the headers in include/).
+#![tactic(auto)]
+
 ghost use Rattle.std.specs.Prelude.{◌≤◌, ◌≡◌, cond, length, ltb};
 ghost use Rattle.boundary.specs.Boundary.{packed, gives, code_of, within, out_after};
 

@@ -1,5 +1,7 @@
 // The fields of a standard DSK image that its track blocks are found by, each with its place and its one reading, and the size of a sector.
 // Each function is total: past the end a byte reads 0.
+#![tactic(auto)]
+
 ghost use Rattle.std.specs.Prelude.{◌≡◌, ◌<◌, ◌≤◌};
 ghost use Rattle.dsk_fields.specs.Fields.{tracks as track_count, sides as side_count, track_size, sector_size};
 

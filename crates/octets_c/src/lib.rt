@@ -1,5 +1,7 @@
 // The byte sum by itself, exported for C (N-6). `tests/sums` runs it on more bytes than a program's stack holds, and its archive is the
 // compiled sum and nothing else.
+#![tactic(auto)]
+
 ghost use Rattle.std.specs.Prelude.{◌≡◌};
 ghost use Rattle.octets.specs.Sums.{byte_sum};
 

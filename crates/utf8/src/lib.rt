@@ -1,4 +1,6 @@
 // UTF-8 by the Unicode Standard, section 3.9: whether bytes are well-formed, and up to where they are.
+#![tactic(auto)]
+
 ghost use Rattle.std.specs.Prelude.{◌≡◌, [], ◌∷◌, true, ◌+◌, ◌<◌, ◌≤◌, length, drop};
 ghost use Rattle.copies.specs.Copying.{part};
 ghost use Rattle.utf8.specs.Table.{◌to◌, holds, sequence_size, valid_up_to, well_formed};

@@ -17,138 +17,129 @@ use Rattle.flux.proofs.Beside.{Beside, beside_start, beside_retell, beside_below
 use Rattle.flux.proofs.fill.Statement.{statement}
 use Rattle.flux.proofs.fill.Tie as tie
 
-abbrev invariant-loop : tie.invariant-loop
+abbrev invariant-loop : tie.invariant-loop-i
 invariant-loop flux times₀ closings₀ wanted words pending₀ n₀ i₀ times closings pending n i =
     (pending ≤ zero_ticks * i)
     × (open_time pending (drop i (words_of flux)) ≡ open_time 0 (words_of flux))
     × Wrote times₀ times n (intervals pending (drop i (words_of flux))) (intervals 0 (words_of flux))
     × Beside wanted closings₀ closings n (closing_numbers i (drop i (words_of flux))) (closing_numbers 0 (words_of flux))
 
-abbrev decreases-loop : tie.decreases-loop
+abbrev decreases-loop : tie.decreases-loop-i
 decreases-loop flux times₀ closings₀ wanted words pending₀ n₀ i₀ times closings pending n i = words - i
 
-loop-holds : tie.Need-loop-init invariant-loop decreases-loop
+loop-holds : tie.Need-loop-i-init invariant-loop decreases-loop
 loop-holds c = (omega arith, refl, start _ _, beside_start _ _ _)
 
-word-at-requires : tie.Need-word-at-requires invariant-loop decreases-loop
+word-at-requires : tie.Need-word_at-w-requires invariant-loop decreases-loop
 word-at-requires c κs = search rules
 
-add-i : tie.Need-overflow-add-i invariant-loop decreases-loop
+add-i : tie.Need-overflow_add-i invariant-loop decreases-loop
 add-i c = search rules
 
-add-pending : tie.Need-overflow-add-pending invariant-loop decreases-loop
+add-pending : tie.Need-overflow_add-pending invariant-loop decreases-loop
 add-pending c = search rules
 
-loop-less : tie.Need-loop-smaller invariant-loop decreases-loop
+loop-less : tie.Need-loop-i-smaller-then-w-eq0 invariant-loop decreases-loop
 loop-less c = search rules
 
-loop-again : tie.Need-loop-preserved invariant-loop decreases-loop
+loop-again : tie.Need-loop-i-preserved-then-w-eq0 invariant-loop decreases-loop
 loop-again c =
-    let at_call = c.before in
-    let l = at_call.before.before.loop in
-    let s = at_call.before.before.before.before.before.before.args.flux.now in
-    let w = at_call.word_at.ensures.0 in (
+    let l = c.before.before.before.loop-i in
+    let s = c.before.before.before.before.before.before.before.args.flux.now in
+    let w = c.before.word_at-w.ensures.0 in (
       omega arith,
-      sym (open_zero s l.i _ (omega arith) w c.if1.true l.pending) ∙ l.invariant.1,
-      retell (intervals_zero s l.i _ (omega arith) w c.if1.true l.pending) l.invariant.2,
-      beside_retell (number_zero s l.i _ (omega arith) w c.if1.true) l.invariant.3,
+      sym (open_zero s l.i _ (omega arith) w c.if-w-eq0.true l.pending) ∙ l.invariant.1,
+      retell (intervals_zero s l.i _ (omega arith) w c.if-w-eq0.true l.pending) l.invariant.2,
+      beside_retell (number_zero s l.i _ (omega arith) w c.if-w-eq0.true) l.invariant.3,
     )
 
 -- the interval that a closing word gives is the next to be written
-next : (c : tie.Else1 invariant-loop decreases-loop)
+next : (c : tie.Else-w-eq0 invariant-loop decreases-loop)
     → Wrote c.before.before.before.before.before.before.before.args.times.now
-    c.before.before.before.loop.times
-    c.before.before.before.loop.n
-    ((c.before.before.before.loop.pending + c.before.word_at.result)
-    ∷ intervals 0 (drop (c.before.before.before.loop.i + 1) (words_of c.before.before.before.before.before.before.before.args.flux.now)))
+    c.before.before.before.loop-i.times
+    c.before.before.before.loop-i.n
+    ((c.before.before.before.loop-i.pending + c.before.word_at-w.result)
+    ∷ intervals 0 (drop (c.before.before.before.loop-i.i + 1) (words_of c.before.before.before.before.before.before.before.args.flux.now)))
     (intervals 0 (words_of c.before.before.before.before.before.before.before.args.flux.now))
 next c =
-    let at_call = c.before in
-    let l = at_call.before.before.loop in
-    let s = at_call.before.before.before.before.before.before.args.flux.now in
-    retell (intervals_close s l.i _ (omega arith) at_call.word_at.ensures.0 c.if1.false l.pending) l.invariant.2
+    let l = c.before.before.before.loop-i in
+    let s = c.before.before.before.before.before.before.before.args.flux.now in
+    retell (intervals_close s l.i _ (omega arith) c.before.word_at-w.ensures.0 c.if-w-eq0.false l.pending) l.invariant.2
 
 -- and so is the number of that word
-next_number : (c : tie.Else1 invariant-loop decreases-loop)
+next_number : (c : tie.Else-w-eq0 invariant-loop decreases-loop)
     → Beside c.before.before.before.before.before.before.before.args.wanted
     c.before.before.before.before.before.before.before.args.closings.now
-    c.before.before.before.loop.closings
-    c.before.before.before.loop.n
-    (c.before.before.before.loop.i
-    ∷ closing_numbers (c.before.before.before.loop.i + 1) (drop (c.before.before.before.loop.i + 1) (words_of c.before.before.before.before.before.before.before.args.flux.now)))
+    c.before.before.before.loop-i.closings
+    c.before.before.before.loop-i.n
+    (c.before.before.before.loop-i.i
+    ∷ closing_numbers (c.before.before.before.loop-i.i + 1) (drop (c.before.before.before.loop-i.i + 1) (words_of c.before.before.before.before.before.before.before.args.flux.now)))
     (closing_numbers 0 (words_of c.before.before.before.before.before.before.before.args.flux.now))
 next_number c =
-    let at_call = c.before in
-    let l = at_call.before.before.loop in
-    let s = at_call.before.before.before.before.before.before.args.flux.now in
-    beside_retell (number_close s l.i _ (omega arith) at_call.word_at.ensures.0 c.if1.false) l.invariant.3
+    let l = c.before.before.before.loop-i in
+    let s = c.before.before.before.before.before.before.before.args.flux.now in
+    beside_retell (number_close s l.i _ (omega arith) c.before.word_at-w.ensures.0 c.if-w-eq0.false) l.invariant.3
 
-in_times : (c : tie.Else1 invariant-loop decreases-loop) → c.before.before.before.loop.n < length c.before.before.before.loop.times
+in_times : (c : tie.Else-w-eq0 invariant-loop decreases-loop) → c.before.before.before.loop-i.n < length c.before.before.before.loop-i.times
 in_times c = below c.before.before.before.before.before.before.before.requires.1.0 (next c)
 
 -- there are places for the numbers where they are wanted
-number_room : (c : tie.Else1 invariant-loop decreases-loop)
+number_room : (c : tie.Else-w-eq0 invariant-loop decreases-loop)
     → c.before.before.before.before.before.before.before.args.wanted ≡ true
     → length (closing_numbers 0 (words_of c.before.before.before.before.before.before.before.args.flux.now))
     ≤ length c.before.before.before.before.before.before.before.args.closings.now
 number_room c m =
-    let at_start = c.before.before.before.before.before.before.before in
-    let h = at_start.requires.1.1 m in
-    let e = as_many (words_of at_start.args.flux.now) in
+    let h = c.before.before.before.before.before.before.before.requires.1.1 m in
+    let e = as_many (words_of c.before.before.before.before.before.before.before.args.flux.now) in
     omega arith
 
-cast-times : tie.Need-overflow-cast-times invariant-loop decreases-loop
+cast-times : tie.Need-overflow_cast-times invariant-loop decreases-loop
 cast-times c = search rules
 
-add_times : tie.Need-overflow-add-times invariant-loop decreases-loop
+add_times : tie.Need-overflow_add-times invariant-loop decreases-loop
 add_times c = search rules
 
-mul-times : tie.Need-overflow-mul-times invariant-loop decreases-loop
-mul-times c = let b = in_times c in let e = c.before.before.before.loop.invariant.2.same in omega arith
+mul-times : tie.Need-offset_bounds-times-n invariant-loop decreases-loop
+mul-times c = let b = in_times c in let e = c.before.before.before.loop-i.invariant.2.same in omega arith
 
-slice-write-times : tie.Need-slice-write-times invariant-loop decreases-loop
+slice-write-times : tie.Need-bounds-times-n invariant-loop decreases-loop
 slice-write-times c = in_times c
 
-put-closing-requires : tie.Need-put-closing-requires invariant-loop decreases-loop
+put-closing-requires : tie.Need-put_closing-requires invariant-loop decreases-loop
 put-closing-requires c κs = beside_below _ (number_room c.before) (next_number c.before)
 
-add-n : tie.Need-overflow-add-n invariant-loop decreases-loop
+add-n : tie.Need-overflow_add-n invariant-loop decreases-loop
 add-n c =
-    let e = c.before.before.before.before in
-    let b = in_times e in
-    let same = e.before.before.before.loop.invariant.2.same in
+    let b = in_times c.before.before.before.before in
+    let same = c.before.before.before.before.before.before.before.loop-i.invariant.2.same in
     omega arith
 
-add-i-2 : tie.Need-overflow-add-i-2 invariant-loop decreases-loop
+add-i-2 : tie.Need-overflow_add-i-else-w-eq0 invariant-loop decreases-loop
 add-i-2 c = search rules
 
-loop-less-2 : tie.Need-loop-smaller-2 invariant-loop decreases-loop
+loop-less-2 : tie.Need-loop-i-smaller invariant-loop decreases-loop
 loop-less-2 c = search rules
 
-loop-again-2 : tie.Need-loop-preserved-2 invariant-loop decreases-loop
+loop-again-2 : tie.Need-loop-i-preserved invariant-loop decreases-loop
 loop-again-2 c =
-    let e = c.before.before.before.before in
-    let at_call = e.before in
-    let l = at_call.before.before.loop in
-    let at_start = at_call.before.before.before.before.before.before in (
+    let l = c.before.before.before.before.before.before.before.loop-i in (
       omega arith,
-      sym (open_close at_start.args.flux.now l.i _ (omega arith) at_call.word_at.ensures.0 e.if1.false l.pending) ∙ l.invariant.1,
-      put at_start.requires.1.0 (next e),
-      beside_put _ (number_room e) (next_number e) c.before.before.put-closing.ensures,
+      sym (open_close c.before.before.before.before.before.before.before.before.before.before.before.args.flux.now l.i _ (omega arith) c.before.before.before.before.before.word_at-w.ensures.0 c.before.before.before.before.if-w-eq0.false l.pending) ∙ l.invariant.1,
+      put c.before.before.before.before.before.before.before.before.before.before.before.requires.1.0 (next c.before.before.before.before),
+      beside_put _ (number_room c.before.before.before.before) (next_number c.before.before.before.before) c.before.before.put_closing.ensures,
     )
 
-same_length : tie.Need-same-length invariant-loop decreases-loop
-same_length c = c.before.loop.invariant.2.same
+same_length : tie.Need-shape_of-times invariant-loop decreases-loop
+same_length c = c.before.loop-i.invariant.2.same
 
-same-length-2 : tie.Need-same-length-2 invariant-loop decreases-loop
-same-length-2 c = beside_same _ c.before.loop.invariant.3
+same-length-2 : tie.Need-shape_of-closings invariant-loop decreases-loop
+same-length-2 c = beside_same _ c.before.loop-i.invariant.3
 
 returns : tie.Need-returns invariant-loop decreases-loop
 returns c =
-    let at-loop = c.before in
-    let h = retell (intervals_end _ _ c.loop-test.false _) at-loop.loop.invariant.2 in
-    let k = beside_retell (number_end _ _ c.loop-test.false) at-loop.loop.invariant.3 in
-    let o = sym (open_end _ _ c.loop-test.false _) ∙ at-loop.loop.invariant.1 in
+    let h = retell (intervals_end _ _ c.loop-i-test.false _) c.before.loop-i.invariant.2 in
+    let k = beside_retell (number_end _ _ c.loop-i-test.false) c.before.loop-i.invariant.3 in
+    let o = sym (open_end _ _ c.loop-i-test.false _) ∙ c.before.loop-i.invariant.1 in
     let n = filled h in
     (cc, (whole_is h, beside_whole _ k))
 

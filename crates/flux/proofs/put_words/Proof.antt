@@ -15,28 +15,28 @@ use Rattle.flux.proofs.Wrote.{Wrote, start, retell, moved, below, put, below_run
 use Rattle.flux.proofs.put_words.Statement.{statement}
 use Rattle.flux.proofs.put_words.Tie as tie
 
-abbrev invariant-loop : tie.invariant-loop
+abbrev invariant-loop : tie.invariant-loop-i
 invariant-loop times flux₀ n at₀ i₀ flux at i = Wrote flux₀ flux at (bytes_of (words_for (drop i times))) (bytes_of (words_for times))
 
-abbrev decreases-loop : tie.decreases-loop
+abbrev decreases-loop : tie.decreases-loop-i
 decreases-loop times flux₀ n at₀ i₀ flux at i = n - i
 
-loop-holds : tie.Need-loop-init invariant-loop decreases-loop
+loop-holds : tie.Need-loop-i-init invariant-loop decreases-loop
 loop-holds c = start _ _
 
-mul-t : tie.Need-overflow-mul-t invariant-loop decreases-loop
+mul-t : tie.Need-offset_bounds-times-i invariant-loop decreases-loop
 mul-t c = search rules
 
-shared-slice-read-t : tie.Need-shared-slice-read-t invariant-loop decreases-loop
+shared-slice-read-t : tie.Need-bounds-times-i invariant-loop decreases-loop
 shared-slice-read-t c = search rules
 
-add-i : tie.Need-overflow-add-i invariant-loop decreases-loop
+add-i : tie.Need-overflow_add-i invariant-loop decreases-loop
 add-i c = search rules
 
 -- at time i: what was lent, what is to stand there, and what of it follows this time
 
 abbrev In : Type 0
-In = tie.In-loop invariant-loop decreases-loop
+In = tie.In-loop-i invariant-loop decreases-loop
 
 abbrev Ts : In → List ℕ
 Ts m = m.before.before.before.before.args.times.now
@@ -63,76 +63,73 @@ room m = m.before.before.before.before.requires
 zeros_next : (m : In) → Wrote (D m) m.before.loop.flux m.before.loop.at (Zeros m ++ (be16_bytes (T m % zero_ticks) ++ Later m)) (Whole m)
 zeros_next m = retell (bytes_next (Ts m) m.before.loop.i (omega arith)) m.before.loop.invariant
 
-mul-put-zeros : tie.Need-overflow-mul-put-zeros invariant-loop decreases-loop
+mul-put-zeros : tie.Need-overflow_mul-zeros invariant-loop decreases-loop
 mul-put-zeros c =
-    let m = c.before.before in
-    let b = below_run (Zeros m) (be16_bytes (T m % zero_ticks) ++ Later m) (room m) (zeros_next m) in
-    let e = length-replicate {A = ℕ} (2 * (T m / zero_ticks)) 0 in
-    let s = m.before.loop.invariant.same in
+    let b = below_run (Zeros c.before.before) (be16_bytes (T c.before.before % zero_ticks) ++ Later c.before.before) (room c.before.before) (zeros_next c.before.before) in
+    let e = length-replicate {A = ℕ} (2 * (T c.before.before / zero_ticks)) 0 in
+    let s = c.before.before.before.loop-i.invariant.same in
     omega arith
 
-put-zeros-requires : tie.Need-put-zeros-requires invariant-loop decreases-loop
+put-zeros-requires : tie.Need-put_zeros-at-requires invariant-loop decreases-loop
 put-zeros-requires c κs =
-    let m = c.before.before in
-    let b = below_run (Zeros m) (be16_bytes (T m % zero_ticks) ++ Later m) (room m) (zeros_next m) in
-    let e = length-replicate {A = ℕ} (2 * (T m / zero_ticks)) 0 in
+    let b = below_run (Zeros c.before.before) (be16_bytes (T c.before.before % zero_ticks) ++ Later c.before.before) (room c.before.before) (zeros_next c.before.before) in
+    let e = length-replicate {A = ℕ} (2 * (T c.before.before / zero_ticks)) 0 in
     omega arith
 
 -- then the remainder's upper byte, and its lower byte
 
 abbrev Put : Type 0
-Put = tie.After-put-zeros invariant-loop decreases-loop
+Put = tie.After-put_zeros-at invariant-loop decreases-loop
 
 abbrev in_loop : Put → In
 in_loop c = c.before.before.before
 
 upper_next : (c : Put)
-    → Wrote (D (in_loop c)) c.put-zeros.new.0 c.put-zeros.result (be16_bytes (T (in_loop c) % zero_ticks) ++ Later (in_loop c)) (Whole (in_loop c))
+    → Wrote (D (in_loop c)) c.put_zeros-at.new.flux c.put_zeros-at.result (be16_bytes (T (in_loop c) % zero_ticks) ++ Later (in_loop c)) (Whole (in_loop c))
 upper_next c =
     let m = in_loop c in
-    let n : m.before.loop.at + length (Zeros m) ≡ c.put-zeros.result =
-    ap (λ (k : ℕ). m.before.loop.at + k) (length-replicate _ _) ∙ sym c.put-zeros.ensures.0 in
-    moved (sym c.put-zeros.ensures.1) n (put_run (Zeros m) (room m) (zeros_next m))
+    let n : m.before.loop.at + length (Zeros m) ≡ c.put_zeros-at.result =
+    ap (λ (k : ℕ). m.before.loop.at + k) (length-replicate _ _) ∙ sym c.put_zeros-at.ensures.0 in
+    moved (sym c.put_zeros-at.ensures.1) n (put_run (Zeros m) (room m) (zeros_next m))
 
 lower_next : (c : Put)
-    → Wrote (D (in_loop c)) (set c.put-zeros.new.0 c.put-zeros.result (T (in_loop c) % zero_ticks / 256)) (c.put-zeros.result + 1) (T (in_loop c) % zero_ticks % 256 ∷ Later (in_loop c)) (Whole (in_loop c))
+    → Wrote (D (in_loop c)) (set c.put_zeros-at.new.flux c.put_zeros-at.result (T (in_loop c) % zero_ticks / 256)) (c.put_zeros-at.result + 1) (T (in_loop c) % zero_ticks % 256 ∷ Later (in_loop c)) (Whole (in_loop c))
 lower_next c = put (room (in_loop c)) (upper_next c)
 
-cast-flux : tie.Need-overflow-cast-flux invariant-loop decreases-loop
+cast-flux : tie.Need-overflow_cast-flux invariant-loop decreases-loop
 cast-flux c = search rules
 
-slice-write-flux : tie.Need-slice-write-flux invariant-loop decreases-loop
+slice-write-flux : tie.Need-bounds-flux-at invariant-loop decreases-loop
 slice-write-flux c = below (room (in_loop c.before.before)) (upper_next c.before.before)
 
-add_at : tie.Need-overflow-add-at invariant-loop decreases-loop
+add_at : tie.Need-overflow_add-at invariant-loop decreases-loop
 add_at c = let b = below (room (in_loop c.before.before)) (upper_next c.before.before) in omega (arith, (upper_next c.before.before).same)
 
-cast-flux-2 : tie.Need-overflow-cast-flux-2 invariant-loop decreases-loop
+cast-flux-2 : tie.Need-overflow_cast-flux-in-loop-i invariant-loop decreases-loop
 cast-flux-2 c = search rules
 
-slice-write-flux-2 : tie.Need-slice-write-flux-2 invariant-loop decreases-loop
+slice-write-flux-2 : tie.Need-bounds-flux-at-in-loop-i invariant-loop decreases-loop
 slice-write-flux-2 c = below (room (in_loop c.before.before)) (lower_next c.before.before)
 
-add-at-2 : tie.Need-overflow-add-at-2 invariant-loop decreases-loop
+add-at-2 : tie.Need-overflow_add-at-in-loop-i invariant-loop decreases-loop
 add-at-2 c = let b = below (room (in_loop c.before.before)) (lower_next c.before.before) in omega (arith, (lower_next c.before.before).same)
 
-loop-less : tie.Need-loop-smaller invariant-loop decreases-loop
+loop-less : tie.Need-loop-i-smaller invariant-loop decreases-loop
 loop-less c = search rules
 
-loop-again : tie.Need-loop-preserved invariant-loop decreases-loop
+loop-again : tie.Need-loop-i-preserved invariant-loop decreases-loop
 loop-again c = put (room (in_loop c.before.before)) (lower_next c.before.before)
 
-same_length : tie.Need-same-length invariant-loop decreases-loop
-same_length c = c.before.loop.invariant.same
+same_length : tie.Need-shape_of-flux invariant-loop decreases-loop
+same_length c = c.before.loop-i.invariant.same
 
 returns : tie.Need-returns invariant-loop decreases-loop
 returns c =
-    let at-loop = c.before in
-    let e = bytes_end at-loop.before.before.before.args.times.now at-loop.loop.i c.loop-test.false in
-    whole_is (retell e at-loop.loop.invariant)
+    let e = bytes_end c.before.before.before.before.args.times.now c.before.loop-i.i c.loop-i-test.false in
+    whole_is (retell e c.before.loop-i.invariant)
 
-pub put-words-spec : {M : Type 1} → statement M
-put-words-spec =
+pub put_words_spec : {M : Type 1} → statement M
+put_words_spec =
     tie.close
     (tie.spec
     invariant-loop
