@@ -48,20 +48,20 @@ abbrev Whole : In → List ℕ
 Whole m = bytes_of (words_for (Ts m))
 
 abbrev T : In → ℕ
-T m = get_or (Ts m) m.before.loop.i 0
+T m = get_or (Ts m) m.before.loop-i.i 0
 
 abbrev Zeros : In → List ℕ
 Zeros m = replicate (2 * (T m / zero_ticks)) 0
 
 abbrev Later : In → List ℕ
-Later m = bytes_of (words_for (drop (m.before.loop.i + 1) (Ts m)))
+Later m = bytes_of (words_for (drop (m.before.loop-i.i + 1) (Ts m)))
 
 room : (m : In) → length (Whole m) ≤ length (D m)
 room m = m.before.before.before.before.requires
 
 -- the zero words are next
-zeros_next : (m : In) → Wrote (D m) m.before.loop.flux m.before.loop.at (Zeros m ++ (be16_bytes (T m % zero_ticks) ++ Later m)) (Whole m)
-zeros_next m = retell (bytes_next (Ts m) m.before.loop.i (omega arith)) m.before.loop.invariant
+zeros_next : (m : In) → Wrote (D m) m.before.loop-i.flux m.before.loop-i.at (Zeros m ++ (be16_bytes (T m % zero_ticks) ++ Later m)) (Whole m)
+zeros_next m = retell (bytes_next (Ts m) m.before.loop-i.i (omega arith)) m.before.loop-i.invariant
 
 mul-put-zeros : tie.Need-overflow_mul-zeros invariant-loop decreases-loop
 mul-put-zeros c =
@@ -88,8 +88,8 @@ upper_next : (c : Put)
     → Wrote (D (in_loop c)) c.put_zeros-at.new.flux c.put_zeros-at.result (be16_bytes (T (in_loop c) % zero_ticks) ++ Later (in_loop c)) (Whole (in_loop c))
 upper_next c =
     let m = in_loop c in
-    let n : m.before.loop.at + length (Zeros m) ≡ c.put_zeros-at.result =
-    ap (λ (k : ℕ). m.before.loop.at + k) (length-replicate _ _) ∙ sym c.put_zeros-at.ensures.0 in
+    let n : m.before.loop-i.at + length (Zeros m) ≡ c.put_zeros-at.result =
+    ap (λ (k : ℕ). m.before.loop-i.at + k) (length-replicate _ _) ∙ sym c.put_zeros-at.ensures.0 in
     moved (sym c.put_zeros-at.ensures.1) n (put_run (Zeros m) (room m) (zeros_next m))
 
 lower_next : (c : Put)

@@ -1,0 +1,16 @@
+-- The values are copied to the start of `out`, or they do not fit.
+use mathlib.Core.Path.{sym, ◌∙◌}
+use Rattle.boundary.proofs.GivenValues.{given, not_given}
+use Rattle.boundary.proofs.give_bytes.Goals as goal
+
+pub returns-then-bytes : goal.returns-then-bytes
+returns-then-bytes c =
+    let a = c.args in
+    let all = given a.out.now a.values.now c.bytes.ensures.out_after (sym c.if-bytes.true ∙ c.bytes.ensures.value) in
+    record { value = all.0; out_after = all.1 }
+
+pub returns : goal.returns
+returns c =
+    let a = c.args in
+    let all = not_given a.out.now a.values.now c.bytes.ensures.out_after (sym c.if-bytes.false ∙ c.bytes.ensures.value) in
+    record { value = all.0; out_after = all.1 }

@@ -1,0 +1,5 @@
+use borrow.Author.Rules.{rules}
+use Rattle.scp_fields.proofs.string_entry.Goals as goal
+
+pub returns : goal.returns
+returns c = cc

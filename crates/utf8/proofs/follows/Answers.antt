@@ -1,0 +1,4 @@
+use Rattle.utf8.proofs.follows.Goals as goal
+
+pub returns : goal.returns
+returns c = cc
