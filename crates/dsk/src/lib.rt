@@ -7,14 +7,14 @@ ghost use Rattle.dsk.specs.Answers.{validate_answer, geometry_answer, found_bloc
 use refusals::Refusal;
 
 // Whether an image is valid.
-#[derive(Drop)]
+#[derive(Clone, Copy)]
 pub enum Validated {
     Valid,
     Refused(Refusal),
 }
 
 // Tracks, sides, and the size of each track block.
-#[derive(Drop)]
+#[derive(Clone, Copy)]
 pub struct DiskGeometry {
     pub tracks: u8,
     pub sides: u8,
@@ -22,21 +22,21 @@ pub struct DiskGeometry {
 }
 
 // The geometry, or why it is refused.
-#[derive(Drop)]
+#[derive(Clone, Copy)]
 pub enum GeometryAnswer {
     Found(DiskGeometry),
     Refused(Refusal),
 }
 
 // The file offset of a track block, or why it is refused.
-#[derive(Drop)]
+#[derive(Clone, Copy)]
 enum BlockPlace {
     At(usize),
     Refused(Refusal),
 }
 
 // A track block: its number of sectors, its size code N, gap and filler.
-#[derive(Drop)]
+#[derive(Clone, Copy)]
 pub struct TrackBlock {
     pub sectors: u8,
     pub code: u8,
@@ -45,7 +45,7 @@ pub struct TrackBlock {
 }
 
 // A track block, or why it is refused.
-#[derive(Drop)]
+#[derive(Clone, Copy)]
 pub enum BlockAnswer {
     Found(TrackBlock),
     Refused(Refusal),
@@ -53,7 +53,7 @@ pub enum BlockAnswer {
 
 // A sector: its identity C, H, R, N, with its own size code, its status bytes ST1 and ST2, and the file offset and length of its data, which
 // are of the size code of its block.
-#[derive(Drop)]
+#[derive(Clone, Copy)]
 pub struct SectorInfo {
     pub cylinder: u8,
     pub head: u8,
@@ -66,7 +66,7 @@ pub struct SectorInfo {
 }
 
 // A sector, or why it is refused.
-#[derive(Drop)]
+#[derive(Clone, Copy)]
 pub enum SectorAnswer {
     Found(SectorInfo),
     Refused(Refusal),

@@ -19,7 +19,7 @@ const MOST_SECTORS: u32 = 29;
 const GREATEST_CODE: u32 = 5;
 
 // Tracks, sides, sectors of each block, their size code, gap and filler.
-#[derive(Drop)]
+#[derive(Clone, Copy)]
 pub struct Layout {
     pub tracks: u8,
     pub sides: u8,
@@ -30,7 +30,7 @@ pub struct Layout {
 }
 
 // A layout that can be written, or why it is refused.
-#[derive(Drop)]
+#[derive(Clone, Copy)]
 pub enum LayoutAnswer {
     Accepted(Layout),
     Refused(Refusal),

@@ -16,14 +16,14 @@ const CREATOR_AT: usize = 0x22;
 const REST_AT: usize = 0x34;
 
 // The length of the image that is written, or why nothing is.
-#[derive(Drop)]
+#[derive(Clone, Copy)]
 pub enum Written {
     Length(usize),
     Refused(Refusal),
 }
 
 // The file offset of a block, the offset of its data among the data of all blocks, and how many bytes they are.
-#[derive(Drop)]
+#[derive(Clone, Copy)]
 struct BlockOffsets {
     block: usize,
     content: usize,

@@ -20,13 +20,13 @@ const FLUX_LIMIT: usize = 268_435_456;
 const TICK_LIMIT: u64 = 4_294_967_295;
 
 // The cursor: the number of the word to read next (F-9, A-16).
-#[derive(Drop)]
+#[derive(Clone, Copy)]
 pub struct Cursor {
     pub word: usize,
 }
 
 // What a step finds (A-3).
-#[derive(Drop)]
+#[derive(Clone, Copy)]
 pub enum Step {
     // A word closes an interval; beside an interval the open time is 0, closing is the number of that word, and next is past it.
     Interval {
@@ -44,14 +44,14 @@ pub enum Step {
 }
 
 // The intervals at one go: how many places are filled, and the open time (A-4).
-#[derive(Drop)]
+#[derive(Clone, Copy)]
 pub enum Filled {
     Places { filled: usize, open: u64 },
     Refused(Refusal),
 }
 
 // The words of times: how many bytes are filled (A-5).
-#[derive(Drop)]
+#[derive(Clone, Copy)]
 pub enum Written {
     Bytes(usize),
     Refused(Refusal),

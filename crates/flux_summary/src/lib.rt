@@ -1,4 +1,6 @@
 // The numbers of flux words in one pass, without a list of intervals: how many intervals they are, the open time, and the ticks of all words.
+#![tactic(auto)]
+
 ghost use Rattle.std.specs.Prelude.{◌≡◌, ◌+◌, ◌*◌, ◌<◌, length};
 ghost use Rattle.octets.specs.Numbers.{be16_at};
 ghost use Rattle.flux_summary.specs.Summaries.{of_summarized, summarizing};
@@ -9,7 +11,7 @@ use refusals::Refusal;
 const ZERO_TICKS: u64 = 65_536;
 
 // How many intervals flux has, its open time, and the ticks of all its words.
-#[derive(Drop)]
+#[derive(Clone, Copy)]
 pub struct Summary {
     pub intervals: u64,
     pub open: u64,
@@ -17,7 +19,7 @@ pub struct Summary {
 }
 
 // The numbers of flux, or 17.
-#[derive(Drop)]
+#[derive(Clone, Copy)]
 pub enum Summarized {
     Given(Summary),
     Refused(Refusal),

@@ -62,7 +62,7 @@ pub const DSK_DATA: u32 = 35;
 pub const DSK_LAYOUT: u32 = 41;
 
 // A number of the table and a position; number 0 is no refusal (RO-1).
-#[derive(Drop)]
+#[derive(Clone, Copy)]
 pub struct Refusal {
     pub number: u32,
     pub position: u64,

@@ -15,21 +15,21 @@ use scp_open::Header;
 use scp_speed::{Speed, SpeedRange, TrackSpeeds};
 
 // Whether an image is valid.
-#[derive(Drop)]
+#[derive(Clone, Copy)]
 pub enum Validated {
     Valid,
     Refused(Refusal),
 }
 
 // The header's fields.
-#[derive(Drop)]
+#[derive(Clone, Copy)]
 pub enum HeaderAnswer {
     Found(Header),
     Refused(Refusal),
 }
 
 // The footer: six offsets of strings (0: absent), two times in seconds from 1970, four version bytes.
-#[derive(Drop)]
+#[derive(Clone, Copy)]
 pub struct FooterData {
     pub maker: u32,
     pub model: u32,
@@ -45,20 +45,20 @@ pub struct FooterData {
     pub format: u8,
 }
 
-#[derive(Drop)]
+#[derive(Clone, Copy)]
 pub enum FooterAnswer {
     Found(FooterData),
     None,
     Refused(Refusal),
 }
 
-#[derive(Drop)]
+#[derive(Clone, Copy)]
 pub enum SpeedAnswer {
     Found(Speed),
     Refused(Refusal),
 }
 
-#[derive(Drop)]
+#[derive(Clone, Copy)]
 pub enum TrackSpeedAnswer {
     Found(TrackSpeeds),
     None,

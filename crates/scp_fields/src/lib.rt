@@ -21,7 +21,7 @@ ghost use Rattle.scp_fields.specs.Footer.{footer_at, string_entry, footer_least}
 // ---- editions
 
 // The edition by which an image is read: revision 1.4 or 1.6 of the format (V-1).
-#[derive(Drop)]
+#[derive(Clone, Copy)]
 pub enum Edition {
     V1_4,
     V1_6,

@@ -37,7 +37,7 @@ fn print_refusal(r: Refusal) {
 }
 
 // How many intervals flux has, its open time, and the number of its last closing word, 0 where there is no interval.
-#[derive(Drop)]
+#[derive(Clone, Copy)]
 struct Counted {
     intervals: u64,
     open: u64,

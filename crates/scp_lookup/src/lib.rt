@@ -10,14 +10,14 @@ use scp_fields::Edition;
 use scp_tracks::{FileOffset, Revolution, RevolutionData};
 
 // The table's entry of a track, or why the track is refused.
-#[derive(Drop)]
+#[derive(Clone, Copy)]
 pub enum Entry {
     At(u32),
     Refused(Refusal),
 }
 
 // A track: its cylinder and head, where its header starts, and how many revolutions it has.
-#[derive(Drop)]
+#[derive(Clone, Copy)]
 pub struct TrackData {
     pub cylinder: u32,
     pub head: u32,
@@ -26,14 +26,14 @@ pub struct TrackData {
 }
 
 // A track, or why it is refused.
-#[derive(Drop)]
+#[derive(Clone, Copy)]
 pub enum TrackAnswer {
     Found(TrackData),
     Refused(Refusal),
 }
 
 // A revolution's numbers, or why the revolution is refused.
-#[derive(Drop)]
+#[derive(Clone, Copy)]
 pub enum RevolutionAnswer {
     Found(RevolutionData),
     Refused(Refusal),

@@ -9,7 +9,7 @@ use refusals::Refusal;
 use scp_fields::Edition;
 
 // The header's fields (T-3).
-#[derive(Drop)]
+#[derive(Clone, Copy)]
 pub struct Header {
     pub version: u8,
     pub disk: u8,
@@ -24,7 +24,7 @@ pub struct Header {
 
 // An opened image: why it is refused (number 0: it is not), its header and its table, with zeros behind the edition's entries. Beside a
 // refusal header and table are zeros.
-#[derive(Drop)]
+#[derive(Clone, Copy)]
 pub struct Opened {
     pub refusal: Refusal,
     pub header: Header,

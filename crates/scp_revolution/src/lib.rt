@@ -10,7 +10,7 @@ use scp_tracks::FileOffset;
 
 // A revolution: its duration in ticks of 25 ns, its count of flux words, where its flux starts; and of its flux how many intervals, the open
 // time and the ticks of all words.
-#[derive(Drop)]
+#[derive(Clone, Copy)]
 pub struct DescribedRevolution {
     pub duration: u32,
     pub words: u32,
@@ -21,7 +21,7 @@ pub struct DescribedRevolution {
 }
 
 // A revolution, or why it is refused.
-#[derive(Drop)]
+#[derive(Clone, Copy)]
 pub enum DescribedAnswer {
     Found(DescribedRevolution),
     Refused(Refusal),

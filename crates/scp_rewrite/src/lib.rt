@@ -12,7 +12,7 @@ use refusals::Refusal;
 use scp_fields::Edition;
 
 // Whether a revolution was rewritten.
-#[derive(Drop)]
+#[derive(Clone, Copy)]
 pub enum Rewritten {
     Done,
     Refused(Refusal),

@@ -15,14 +15,14 @@ use scp_lookup::RevolutionAnswer;
 use scp_tracks::{FileOffset, HeaderOffset};
 
 // An extent of the file (W-4).
-#[derive(Drop)]
+#[derive(Clone, Copy)]
 pub struct Extent {
     pub start: usize,
     pub size: usize,
 }
 
 // What a rewrite stands on: the bytes of duration and count, and the flux (W-2).
-#[derive(Drop)]
+#[derive(Clone, Copy)]
 pub struct Stand {
     pub numbers: Extent,
     pub flux: Extent,
@@ -30,7 +30,7 @@ pub struct Stand {
 
 // Two offsets: no byte that a rewrite stands on lies before `from`, and none at or behind `to`. `to` is the largest number where an end would
 // be more, and then says nothing.
-#[derive(Drop)]
+#[derive(Clone, Copy)]
 struct Span {
     from: usize,
     to: usize,

@@ -8,21 +8,21 @@ ghost use Rattle.scp_speed.specs.Speeds.{rpm_of, speed_of, speeds_of};
 const MINUTE: u32 = 2_400_000_000;
 
 // A speed in rpm, or the plain fact that there is none.
-#[derive(Drop)]
+#[derive(Clone, Copy)]
 pub enum Speed {
     Rpm(f64),
     None,
 }
 
 // The slowest and the fastest speed of a track's revolutions, in rpm.
-#[derive(Drop)]
+#[derive(Clone, Copy)]
 pub struct TrackSpeeds {
     pub slowest: f64,
     pub fastest: f64,
 }
 
 // The speeds of a track, or the plain fact that there is none.
-#[derive(Drop)]
+#[derive(Clone, Copy)]
 pub enum SpeedRange {
     Speeds(TrackSpeeds),
     None,

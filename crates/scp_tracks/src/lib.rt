@@ -26,11 +26,11 @@ use scp_fields::Edition;
 // ---- offsets
 
 // A file offset (L-16).
-#[derive(Drop)]
+#[derive(Clone, Copy)]
 pub struct FileOffset(pub u64);
 
 // A distance from a track data header (L-16).
-#[derive(Drop)]
+#[derive(Clone, Copy)]
 pub struct HeaderOffset(pub u32);
 
 // Where a distance from the track data header at `header` lies in the file: the exact sum, or the largest number where 64 bits do not hold it.
@@ -82,7 +82,7 @@ pub fn header_size(image: &[u8]) -> usize
 }
 
 // A revolution's numbers: its duration in ticks of 25 ns, its count of flux words, and where its flux starts.
-#[derive(Drop)]
+#[derive(Clone, Copy)]
 pub struct RevolutionData {
     pub duration: u32,
     pub words: u32,
@@ -131,7 +131,7 @@ pub fn revolution_data(image: &[u8], header: u32, k: u32) -> RevolutionData
 }
 
 // A revolution of a track: absent, or present with its numbers (T-6).
-#[derive(Drop)]
+#[derive(Clone, Copy)]
 pub enum Revolution {
     Absent,
     Present(RevolutionData),

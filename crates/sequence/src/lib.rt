@@ -12,7 +12,7 @@ use scp_fields::Edition;
 use scp_rewrite::Rewritten;
 
 // Whether the calls were made.
-#[derive(Drop)]
+#[derive(Clone, Copy)]
 pub enum Replayed {
     Done,
     Refused(Refusal),
