@@ -1,4 +1,6 @@
 // What refuses a standard DSK image before its track blocks are looked at: 30, 31 and 32.
+#![tactic(auto)]
+
 ghost use Rattle.std.specs.Prelude.{◌≡◌};
 ghost use Rattle.dsk_header.specs.HeaderFault.{bad_sign, bad_geometry, bad_length, head_fault};
 

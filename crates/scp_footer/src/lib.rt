@@ -1,4 +1,6 @@
 // The footer of a SuperCard Pro image and its strings, by any edition: refusals 7, 8 and 19.
+#![tactic(auto)]
+
 ghost use Rattle.std.specs.Prelude.{◌≡◌, ◌+◌, ◌<◌, ◌≤◌, length};
 ghost use Rattle.octets.specs.Numbers.{le16_at};
 ghost use Rattle.scp_footer.specs.Footer.{bad_footer, zero_within, bad_string_of, string_fault_at, strings_fault, footer_fault};

@@ -1,5 +1,5 @@
 -- Refusals 1 to 6, each by one test (R-1 to R-6).
-use Rattle.std.specs.Prelude.{ℕ, ◌-◌, List, Bool, not, ◌&&◌, ◌||◌, length, eqb, ltb}
+use Rattle.std.specs.Prelude.{ℕ, List, Bool, not, ◌&&◌, ◌||◌, length, eqb, ltb}
 use Rattle.octets.specs.Numbers.{byte_at}
 use Rattle.scp_fields.specs.declared.Edition.{Edition}
 use Rattle.scp_fields.specs.Editions.{table_end, last_track}

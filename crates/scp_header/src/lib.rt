@@ -1,4 +1,6 @@
 // The header of a SuperCard Pro image, by any edition: refusals 1 to 6.
+#![tactic(auto)]
+
 ghost use Rattle.std.specs.Prelude.{◌≡◌, ◌≤◌, length};
 ghost use Rattle.scp_header.specs.HeaderTests.{bad_sign, bad_width, bad_revolutions, bad_span, bad_heads};
 ghost use Rattle.scp_header.specs.HeaderFault.{header_fault};

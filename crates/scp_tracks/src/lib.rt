@@ -1,6 +1,8 @@
 // Tracks of a SuperCard Pro image: offsets, the track data header and the records of its revolutions, and refusals 9 to 11 of one track, by
 // any edition.
 // Each public function is total: it takes any bytes, and past the end a byte reads 0.
+#![tactic(auto)]
+
 ghost use Rattle.std.specs.Prelude.{◌≡◌, ◌+◌, ◌<◌, ◌≤◌, length};
 ghost use Rattle.octets.specs.Numbers.{le32_at};
 ghost use Rattle.scp_fields.specs.Header.{data_end};

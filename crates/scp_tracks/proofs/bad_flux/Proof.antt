@@ -10,89 +10,84 @@ use Rattle.scp_tracks.proofs.RevolutionLaws.{room_ends}
 use Rattle.scp_tracks.proofs.bad_flux.Statement.{statement}
 use Rattle.scp_tracks.proofs.bad_flux.Tie as tie
 
-abbrev invariant-loop : tie.invariant-loop
+abbrev invariant-loop : tie.invariant-loop-k
 invariant-loop image e n room k₀ k =
     (n ≡ revolutions image) × (n < 256) × (k ≤ n)
     × (any_from (flux_past (e + room) image e) k (n - k) ≡ any_from (flux_past (e + room) image e) 0 (revolutions image))
 
-abbrev decreases-loop : tie.decreases-loop
+abbrev decreases-loop : tie.decreases-loop-k
 decreases-loop image e n room k₀ k = n - k
 
-revolutions-requires : tie.Need-revolutions-requires invariant-loop decreases-loop
+revolutions-requires : tie.Need-revolutions-n-requires invariant-loop decreases-loop
 revolutions-requires c κs = search rules
 
-cast-n : tie.Need-overflow-cast-n invariant-loop decreases-loop
+cast-n : tie.Need-overflow_cast-n invariant-loop decreases-loop
 cast-n c = search rules
 
-data-end-requires : tie.Need-data-end-requires invariant-loop decreases-loop
+data-end-requires : tie.Need-data_end-requires invariant-loop decreases-loop
 data-end-requires c κs = search rules
 
-sub-room : tie.Need-overflow-sub-room invariant-loop decreases-loop
+sub-room : tie.Need-overflow_sub-room invariant-loop decreases-loop
 sub-room c = search rules
 
-loop-holds : tie.Need-loop-init invariant-loop decreases-loop
+loop-holds : tie.Need-loop-k-init invariant-loop decreases-loop
 loop-holds c =
     let a = c.before.before.before.args in
-    let n = c.before.revolutions.ensures in
-    let end = a.e + (c.data-end.result - a.e) in
+    let n = c.before.revolutions-n.ensures in
+    let end = a.e + (c.data_end.result - a.e) in
     (n.0, n.1, search rules, ap (any_from (flux_past end a.image.now a.e) 0) (search rules))
 
 -- the room ends with the data
-ends : (c : tie.After-data-end invariant-loop decreases-loop) → let a = c.before.before.before.args in
+ends : (c : tie.After-data_end invariant-loop decreases-loop) → let a = c.before.before.before.args in
     let b = a.image.now in
-    any_from (flux_past (a.e + (c.data-end.result - a.e)) b a.e) 0 (revolutions b) ≡ bad_flux a.edition b a.e
-ends c = let a = c.before.before.before.args in room_ends a.edition a.image.now a.e (c.data-end.result - a.e) (search rules)
+    any_from (flux_past (a.e + (c.data_end.result - a.e)) b a.e) 0 (revolutions b) ≡ bad_flux a.edition b a.e
+ends c = let a = c.before.before.before.args in room_ends a.edition a.image.now a.e (c.data_end.result - a.e) (search rules)
 
-add-loop : tie.Need-overflow-add-loop invariant-loop decreases-loop
+add-loop : tie.Need-overflow_add-k invariant-loop decreases-loop
 add-loop c = search rules
 
-flux-past-requires : tie.Need-flux-past-requires invariant-loop decreases-loop
+flux-past-requires : tie.Need-flux_past-requires invariant-loop decreases-loop
 flux-past-requires c κs = search rules
 
-add-flux-past : tie.Need-overflow-add-flux-past invariant-loop decreases-loop
+add-flux-past : tie.Need-overflow_add-k-in-loop-k invariant-loop decreases-loop
 add-flux-past c = search rules
 
-flux-past-requires-2 : tie.Need-flux-past-requires-2 invariant-loop decreases-loop
+flux-past-requires-2 : tie.Need-flux_past-requires-in-loop-k invariant-loop decreases-loop
 flux-past-requires-2 c κs = search rules
 
-returns : tie.Need-returns invariant-loop decreases-loop
+returns : tie.Need-returns-then-flux_past invariant-loop decreases-loop
 returns c =
-    let turn = c.before in
-    let at-loop = turn.before.before.before in
-    two_here _ _ at-loop.loop.invariant.3 turn.before.flux-past.ensures turn.flux-past2.ensures (search rules) c.if1.true
-    ∙ ends at-loop.before
+    two_here _ _ c.before.before.before.before.loop-k.invariant.3 c.before.before.flux_past.ensures c.before.flux_past-in-loop-k.ensures (search rules) c.if-flux_past.true
+    ∙ ends c.before.before.before.before.before
 
-add-k : tie.Need-overflow-add-k invariant-loop decreases-loop
+add-k : tie.Need-overflow_add-k-in-loop-k-2 invariant-loop decreases-loop
 add-k c = search rules
 
-loop-less : tie.Need-loop-smaller invariant-loop decreases-loop
+loop-less : tie.Need-loop-k-smaller invariant-loop decreases-loop
 loop-less c = search rules
 
-loop-again : tie.Need-loop-preserved invariant-loop decreases-loop
+loop-again : tie.Need-loop-k-preserved invariant-loop decreases-loop
 loop-again c =
-    let turn = c.before in
-    let inv = turn.before.before.before.loop.invariant in (
+    let inv = c.before.before.before.before.loop-k.invariant in (
       search rules,
       search rules,
       search rules,
-      two_next _ _ inv.3 turn.before.flux-past.ensures turn.flux-past2.ensures (search rules) c.if1.false,
+      two_next _ _ inv.3 c.before.before.flux_past.ensures c.before.flux_past-in-loop-k.ensures (search rules) c.if-flux_past.false,
     )
 
-flux-past-requires-3 : tie.Need-flux-past-requires-3 invariant-loop decreases-loop
+flux-past-requires-3 : tie.Need-flux_past-requires-then-k-n invariant-loop decreases-loop
 flux-past-requires-3 c κs = search rules
 
-returns-2 : tie.Need-returns-2 invariant-loop decreases-loop
+returns-2 : tie.Need-returns-then-k-n invariant-loop decreases-loop
 returns-2 c =
-    let at-loop = c.before.before.before in
-    c.flux-past3.ensures ∙ last_here _ _ at-loop.loop.invariant.3 (search rules) (search rules) ∙ ends at-loop.before
+    c.flux_past-then-k-n.ensures ∙ last_here _ _ c.before.before.before.loop-k.invariant.3 (search rules) (search rules) ∙ ends c.before.before.before.before
 
-returns-3 : tie.Need-returns-3 invariant-loop decreases-loop
+returns-3 : tie.Need-returns invariant-loop decreases-loop
 returns-3 c =
-    let at-loop = c.before.before in
-    any_end _ at-loop.loop.invariant.3 (search rules) ∙ ends at-loop.before
+    any_end _ c.before.before.loop-k.invariant.3 (search rules) ∙ ends c.before.before.before
 
-pub bad-flux-spec : {M : Type 1} → statement M
-bad-flux-spec =
+pub bad_flux_spec : {M : Type 1} → statement M
+bad_flux_spec =
     tie.close
     (tie.spec
     invariant-loop

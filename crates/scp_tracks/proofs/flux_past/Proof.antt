@@ -9,52 +9,51 @@ use borrow.Author.Rules.{rules}
 use Rattle.scp_tracks.proofs.flux_past.Statement.{statement}
 use Rattle.scp_tracks.proofs.flux_past.Tie as tie
 
-record-offset-requires : tie.Need-record-offset-requires
+record-offset-requires : tie.Need-record_offset-requires
 record-offset-requires c κs = search rules
 
-add_at : tie.Need-overflow-add-at
+add_at : tie.Need-overflow_add-at
 add_at c = search rules
 
-add-inner32 : tie.Need-overflow-add-inner32
+add-inner32 : tie.Need-overflow_add-at-2
 add-inner32 c = search rules
 
-inner32-requires : tie.Need-inner32-requires
+inner32-requires : tie.Need-inner32-words-requires
 inner32-requires c κs = search rules
 
-add-inner32-2 : tie.Need-overflow-add-inner32-2
+add-inner32-2 : tie.Need-overflow_add-at-3
 add-inner32-2 c = search rules
 
-inner32-requires-2 : tie.Need-inner32-requires-2
+inner32-requires-2 : tie.Need-inner32-distance-requires
 inner32-requires-2 c κs = search rules
 
-cast-result : tie.Need-overflow-cast-result
+cast-result : tie.Need-overflow_cast-result
 cast-result c = search rules
 
-cast-result-2 : tie.Need-overflow-cast-result-2
+cast-result-2 : tie.Need-overflow_cast-result-2
 cast-result-2 c = search rules
 
-mul-result : tie.Need-overflow-mul-result
+mul-result : tie.Need-overflow_mul-result
 mul-result c = search rules
 
-add-result : tie.Need-overflow-add-result
+add-result : tie.Need-overflow_add-result
 add-result c = search rules
 
 -- a field of the revolution's record, at the offset that was worked out
-field : (c : tie.After-record-offset) (at : ℕ) → let a = c.before.before.args in
-    le32_at a.image.now (a.e + c.record-offset.result + at) ≡ le32_at a.image.now (revolution_at a.e a.k + at)
-field c at = let a = c.before.before.args in ap (λ (x : ℕ). le32_at a.image.now (a.e + x + at)) c.record-offset.ensures
+field : (c : tie.After-record_offset) (at : ℕ) → let a = c.before.before.args in
+    le32_at a.image.now (a.e + c.record_offset.result + at) ≡ le32_at a.image.now (revolution_at a.e a.k + at)
+field c at = let a = c.before.before.args in ap (λ (x : ℕ). le32_at a.image.now (a.e + x + at)) c.record_offset.ensures
 
 returns : tie.Need-returns
 returns c =
-    let at = c.before.before in
-    let a = at.before.before.args in
+    let a = c.before.before.before.before.args in
     let count = count_at a.image.now a.e a.k in
-    ap (λ (w : ℕ). ltb a.room (c.inner322.result + 2 * w)) (c.before.inner32.ensures ∙ field at 4)
-    ∙ ap (λ (d : ℕ). ltb a.room (d + 2 * count)) (c.inner322.ensures ∙ field at 8)
+    ap (λ (w : ℕ). ltb a.room (c.inner32-distance.result + 2 * w)) (c.before.inner32-words.ensures ∙ field c.before.before 4)
+    ∙ ap (λ (d : ℕ). ltb a.room (d + 2 * count)) (c.inner32-distance.ensures ∙ field c.before.before 8)
     ∙ room_past a.e a.room (distance_at a.image.now a.e a.k) (2 * count)
 
-pub flux-past-spec : {M : Type 1} → statement M
-flux-past-spec =
+pub flux_past_spec : {M : Type 1} → statement M
+flux_past_spec =
     tie.close
     (tie.spec
     record-offset-requires
