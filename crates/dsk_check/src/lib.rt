@@ -1,4 +1,6 @@
 // What refuses a standard DSK image: 30 to 35. The Disc Information Block is looked at, and each Track Information Block; no sector's data.
+#![tactic(auto)]
+
 ghost use Rattle.std.specs.Prelude.{◌≡◌, ◌+◌, ◌-◌, ◌<◌, ◌≤◌, length};
 ghost use Rattle.refusals.specs.Search.{any_from};
 ghost use Rattle.dsk_fields.specs.Fields.{block_text, says_at, info_size, size_code, entry_code, tracks as track_count, track_size, block_of, image_size};

@@ -1,18 +1,17 @@
 -- The numbers of flux are those of the bulk call and the sum over its words; and they fit, as each word takes at most 65,536 ticks.
-use Prim.Native.Nat.{ℕ, zero, suc, ◌+◌, ◌*◌, ◌<◌, ◌≤◌}
-use mathlib.Core.Path.{◌≡◌, refl, sym, ◌∙◌}
+use Prim.Native.Nat.{ℕ, zero, suc, ◌*◌, ◌<◌, ◌≤◌}
+use mathlib.Core.Path.{◌≡◌, refl, ◌∙◌}
 use mathlib.Core.Logic.{◌↔◌}
 use mathlib.Core.List.{List, [], ◌∷◌}
 use mathlib.Core.Bool.{Bool, true, false, cond}
 use native.Mathlib.Omega.{arith}
-use lib.ListN.{length, get_or}
-use Rattle.octets.specs.Numbers.{Octets}
+use lib.ListN.{length}
 use Rattle.flux.specs.Coding.{words_of, Words, bad_flux_size}
 use Rattle.flux.specs.Reading.{zero_ticks, intervals, open_time, total_ticks}
-use Rattle.flux.specs.Answers.{Answer, words_refused, refused, gives, Filling, refuses, fills, read_into, reading}
-use Rattle.flux.proofs.AnswerLaws.{places_only, list_bad, list_fits}
+use Rattle.flux.specs.Answers.{words_refused, refused, gives, refuses, read_into}
+use Rattle.flux.proofs.AnswerLaws.{places_only, list_fits}
 use Rattle.flux.proofs.WordLaws.{length_words, good_size}
-use Rattle.flux_summary.specs.Summaries.{summary_of, summarizing}
+use Rattle.flux_summary.specs.Summaries.{summary_of}
 use Rattle.flux_theorems.proofs.Counting.{summed}
 use Rattle.flux_theorems.proofs.RoundTrips.{words_of_lem}
 use Rattle.flux_theorems.specs.Theorems.{Summed, SummaryIsSummed, SummaryRefused}

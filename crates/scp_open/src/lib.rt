@@ -1,5 +1,7 @@
 // Opening a SuperCard Pro image by an edition: refusals 1 to 11 and 19, its header and its table of tracks.
 // Opening looks at the header, the table, the footer with its strings, and the track data headers; it reads no flux.
+#![tactic(auto)]
+
 ghost use Rattle.std.specs.Prelude.{◌≡◌, ◌≤◌};
 ghost use Rattle.scp_fields.specs.Header.{entries};
 ghost use Rattle.scp_tracks.specs.Tracks.{walk_end, tracks_fault_in};

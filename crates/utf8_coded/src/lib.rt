@@ -1,4 +1,6 @@
 // The call on a text, answered by a code and by a value put to the start of a lent buffer (include/scp.h).
+#![tactic(auto)]
+
 ghost use Rattle.std.specs.Prelude.{◌≡◌, length};
 ghost use Rattle.boundary.specs.Boundary.{code_of, within, out_after};
 ghost use Rattle.utf8_coded.specs.Boundary.{text_numbers};

@@ -11,9 +11,7 @@ use Rattle.octets.specs.Numbers.{Octets, le_at, le_bytes}
 use Rattle.octets.proofs.Numbers.{drop_octets, take_octets}
 use Rattle.dsk_fields.specs.Fields.{block_text, begins_with}
 use Rattle.dsk_fields.proofs.Texts.{number_then, number_says, begins_take}
-use borrow.Author.Rules.{rules}
-use Rattle.dsk_check.proofs.named.Statement.{statement}
-use Rattle.dsk_check.proofs.named.Tie as tie
+use Rattle.dsk_check.proofs.named.Goals as goal
 
 -- the first twelve bytes, four at a time
 name_said : (name bytes : List ℕ) → name ≡ take 12 bytes → Octets bytes → 12 ≤ length bytes
@@ -27,51 +25,15 @@ name_said name bytes e o h =
     let first = number_then 0x6361_7254 name 0 (le_bytes 4 0x6E49_2D6B ++ le_bytes 4 0x0A0D_6F66) octets (omega arith) (omega arith) second in
     first ∙ ap (begins_with block_text) e ∙ begins_take block_text bytes
 
-add-end : tie.Need-overflow-add-end
-add-end c = search rules
-
-sub-name : tie.Need-overflow-sub-name
-sub-name c = search rules
-
-part-name-start : tie.Need-slice-bounds-name-start
-part-name-start c = search rules
-
-part-name-end : tie.Need-slice-bounds-name-end
-part-name-end c = search rules
-
-le32-requires : tie.Need-le32-requires
-le32-requires c κs = search rules
-
-le32-requires-2 : tie.Need-le32-requires-2
-le32-requires-2 c κs = search rules
-
-le32-requires-3 : tie.Need-le32-requires-3
-le32-requires-3 c κs = search rules
-
-returns : tie.Need-returns
+pub returns : goal.returns
 unfolding le_bytes
 returns c =
-    let at_name = c.before.before.before in
-    let start = at_name.before.before in
-    let b = start.args.image.now in
-    let at = start.args.at in
-    let octets : Octets b = λ i. (at_name.before.shared-slice-known.given i).fits in
+    let b = c.args.image.now in
+    let at = c.args.at in
+    let octets : Octets b = λ i. (c.type_inv.image i).fits in
     let twelve : at + 12 - at ≡ 12 = omega arith in
-    let whole : 12 ≤ length (drop at b) = let r = start.requires in let l = length-drop at b in omega arith in
+    let whole : 12 ≤ length (drop at b) = let r = c.requires in let l = length-drop at b in omega arith in
     let said = name_said (take (at + 12 - at) (drop at b)) (drop at b) (ap (λ (n : ℕ). take n (drop at b)) twelve) (drop_octets at b octets) whole in
-    ap₂ ◌&&◌ (ap (λ (v : ℕ). eqb v 0x6361_7254) c.before.before.le32.ensures)
-    (ap₂ ◌&&◌ (ap (λ (v : ℕ). eqb v 0x6E49_2D6B) c.before.le322.ensures) (ap (λ (v : ℕ). eqb v 0x0A0D_6F66) c.le323.ensures))
+    ap₂ ◌&&◌ (ap (λ (v : ℕ). eqb v 0x6361_7254) c.le32.ensures)
+    (ap₂ ◌&&◌ (ap (λ (v : ℕ). eqb v 0x6E49_2D6B) c.le32-2.ensures) (ap (λ (v : ℕ). eqb v 0x0A0D_6F66) c.le32-3.ensures))
     ∙ said
-
-pub named-spec : {M : Type 1} → statement M
-named-spec =
-    tie.close
-    (tie.spec
-    add-end
-    sub-name
-    part-name-start
-    part-name-end
-    le32-requires
-    le32-requires-2
-    le32-requires-3
-    returns)
