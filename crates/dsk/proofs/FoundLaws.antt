@@ -13,7 +13,6 @@ use Rattle.refusals.specs.Refusals.{none, refusal, passes, refuse_if}
 use Rattle.refusals.proofs.Finding.{not_refused, is_refusal}
 use Rattle.refusals.proofs.Answers.{unless_refused}
 use Rattle.dsk_fields.specs.Fields.{info_size, track_size, block_of, sectors, data_size, data_at}
-use Rattle.dsk_check.specs.Validity.{Valid}
 use Rattle.dsk_check.specs.Faults.{dsk_fault}
 use Rattle.dsk_check.proofs.Accepting.{obeys, accepts, block_within, data_within}
 use Rattle.dsk.specs.Questions.{block_question, sector_question}

@@ -1,5 +1,7 @@
 // Reading standard DSK images: validating, and the calls for geometry, track blocks, sectors and their data. Every call judges the image
 // anew.
+#![tactic(auto)]
+
 ghost use Rattle.std.specs.Prelude.{◌≡◌, ◌+◌, ◌<◌, ◌≤◌, length};
 ghost use Rattle.dsk_fields.specs.Fields.{info_size, data_at};
 ghost use Rattle.dsk.specs.Answers.{validate_answer, geometry_answer, found_block, track_block, block_answer, sector_info, sector_answer, data_of, data_part, data_start};

@@ -1,5 +1,7 @@
 // The boundary of DSK images to C and Rust: each call returns 0, or a refusal's number + 256 x its position, and puts its values to a lent
 // buffer. A slice passes as a pointer and a length (include/dsk.h).
+#![tactic(auto)]
+
 ghost use Rattle.std.specs.Prelude.{◌≡◌, length};
 ghost use Rattle.boundary.specs.Boundary.{code_of, within, out_after};
 ghost use Rattle.dsk.specs.Answers.{validate_answer, geometry_answer, block_answer, sector_answer};

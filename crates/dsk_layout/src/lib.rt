@@ -1,4 +1,6 @@
 // What a DSK image that is to be written has, how large it is, and what is not written: 41.
+#![tactic(auto)]
+
 ghost use Rattle.std.specs.Prelude.{◌≡◌, ◌<◌, ◌≤◌};
 ghost use Rattle.dsk_layout.specs.Layouts.{layout_of, track_data, track_length, block_count, image_length, bad_numbers, bad_sizes, refused_layout, layout_answer};
 

@@ -4,13 +4,13 @@ use mathlib.Core.Path.{◌≡◌, refl, ◌∙◌}
 use mathlib.Core.List.{List, [], ◌∷◌, ◌++◌}
 use native.Mathlib.Nat.{mul_assoc, mul_comm}
 use native.Mathlib.Omega.{arith}
-use lib.ListN.{length, take, drop, replicate, length-append, length-replicate, length-drop}
+use lib.ListN.{length, drop, replicate, length-append, length-replicate, length-drop}
 use lib.Seq.{length-take-le}
 use Rattle.octets.proofs.Numbers.{le_length}
 use Rattle.dsk_fields.specs.Fields.{info_size, block_text}
 use Rattle.dsk_fields.proofs.Strides.{part_ends}
 use Rattle.dsk_layout.specs.declared.Layout.{Layout}
-use Rattle.dsk_layout.specs.Layouts.{track_data, track_length, block_count, all_data, image_length, Writable}
+use Rattle.dsk_layout.specs.Layouts.{track_data, track_length, all_data, image_length, Writable}
 use Rattle.dsk_write.specs.Images.{filled_up, opening_text, geometry_bytes, header_bytes, entry_bytes, number_bytes, list_bytes, info_bytes, block_offset, data_of_block, block_bytes, track_bytes, image_bytes, joined_from}
 use Rattle.dsk_write.specs.Steps.{Located}
 use Rattle.dsk_write.proofs.Joined.{joined_length}

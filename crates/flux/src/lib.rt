@@ -1,5 +1,7 @@
 // Flux words and the intervals that they stand for (SCP 1.6, track data): a cursor that steps from interval to interval, all
 // intervals at one go, with the words that close them or without, and the words of times.
+#![tactic(auto)]
+
 ghost use Rattle.std.specs.Prelude.{◌≡◌, ◌+◌, ◌*◌, ◌<◌, ◌≤◌, min, length, replicate, drop, set, leb, [], ◌∷◌, ◌++◌, true, cond};
 ghost use Rattle.std.proofs.lemmas.List.Edits.{sets};
 ghost use Rattle.octets.specs.Numbers.{be16_at};

@@ -1,5 +1,7 @@
 // Validating a SuperCard Pro image, and the questions that can be asked of it, each by the edition that the call names. Every call opens the
 // image anew and takes nobody's word.
+#![tactic(auto)]
+
 ghost use Rattle.std.specs.Prelude.{◌≡◌, ◌+◌, ◌≤◌, length};
 ghost use Rattle.scp_fields.specs.Editions.{table_at};
 ghost use Rattle.scp_fields.specs.Header.{footer_size};

@@ -108,8 +108,8 @@ pub fn flux_part(image: &[u8], edition: u32, track: u32, revolution: u32, out: &
     ensures out_after { out.new ≡ out_after out.old (within (length out.old) (part_numbers (flux_answer (edition_of edition) image.now track revolution))) }
 {
     let named = scp_fields::edition_of(edition as u64);
-    let found = scp::revolution(image, named, track, revolution);
-    match found {
+    let asked = scp::revolution(image, named, track, revolution);
+    match asked {
         RevolutionAnswer::Found(d) => {
             let offset = d.offset;
             let part = scp_lookup::flux_of(image, d);

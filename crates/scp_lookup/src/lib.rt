@@ -1,6 +1,8 @@
 // Looking up a track and a revolution of a SuperCard Pro image: refusals 1 to 11 and 19, then 13, then 14. Every call on a track or a revolution
 // but the direct ones goes by these two; each opens the image anew. And what a call answers of a track or a revolution that was found, whoever
 // found it.
+#![tactic(auto)]
+
 ghost use Rattle.std.specs.Prelude.{◌≡◌, ◌+◌};
 ghost use Rattle.copies.specs.Copying.{part_start};
 ghost use Rattle.scp_lookup.specs.Lookups.{found_track, found_revolution, track_on, revolution_on, flux_of, part_of, start_in};

@@ -1,5 +1,7 @@
 // A revolution of a SuperCard Pro image as it is handed out: the numbers of its record, and those of its flux, which is read for them once.
 // What needs the record alone does not go by this crate.
+#![tactic(auto)]
+
 ghost use Rattle.std.specs.Prelude.{◌≡◌};
 ghost use Rattle.scp_revolution.specs.Described.{described_on};
 

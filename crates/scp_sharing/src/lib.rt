@@ -1,5 +1,7 @@
 // What refuses a rewrite of one revolution of a SuperCard Pro image, by the edition that it names: the question of the revolution, the words,
 // and the sharing test. It opens the image anew, takes nobody's word, and walks once over the extents that others claim.
+#![tactic(auto)]
+
 ghost use Rattle.std.specs.Prelude.{◌≡◌, ◌≢◌, ◌+◌, ◌<◌, ◌≤◌, length};
 ghost use Rattle.octets.specs.Numbers.{le32_at};
 ghost use Rattle.scp_fields.specs.Header.{revolutions, track_entry};

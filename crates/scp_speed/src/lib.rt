@@ -1,4 +1,6 @@
 // Drive speeds of a SuperCard Pro image: of a revolution from its duration, of a track from its longest and its shortest.
+#![tactic(auto)]
+
 ghost use Rattle.std.specs.Prelude.{◌≡◌, ◌<◌};
 ghost use Rattle.scp_tracks.specs.Tracks.{duration_at};
 ghost use Rattle.scp_speed.specs.Durations.{longer, longest_from, shorter, shortest_from};

@@ -18,8 +18,8 @@ edition-of-requires c κs = search rules
 revolution-requires : tie.Need-revolution-requires
 revolution-requires c κs = search rules
 
-enum-known-found : tie.Need-enum-known-found
-enum-known-found c = search rules
+enum-known-asked : tie.Need-enum-known-asked
+enum-known-asked c = search rules
 
 flux-of-requires : tie.Need-flux-of-requires
 flux-of-requires c κs = search rules
@@ -30,8 +30,8 @@ slice-aggregate-give c = search rules
 give-requires : tie.Need-give-requires
 give-requires c κs = search rules
 
-enum-known-found-2 : tie.Need-enum-known-found-2
-enum-known-found-2 c = search rules
+enum-known-asked-2 : tie.Need-enum-known-asked-2
+enum-known-asked-2 c = search rules
 
 code-requires : tie.Need-code-requires
 code-requires c κs = search rules
@@ -46,8 +46,8 @@ returns c =
     let at_told = at-flux.before.before.before in
     let at_call = at_told.before.before in
     let a = at_call.before.before.before.before.args in
-    let found = ap of_revolution (sym at_told.found.given.1) ∙ (rw at_call.before.edition-of.ensures at at_call.revolution.ensures) in
-    let d = at_told.found.given.0.0 in
+    let found = ap of_revolution (sym at_told.asked.given.1) ∙ (rw at_call.before.edition-of.ensures at at_call.revolution.ensures) in
+    let d = at_told.asked.given.0.0 in
     let told = ap (bytes d.offset.0) at-flux.flux-of.ensures.0 ∙ direct_flux_found (edition_of a.edition) a.image.now a.track a.revolution d found in
     pass_values a.out.now (ap part_numbers told) at_give.give.ensures
 
@@ -56,7 +56,7 @@ returns-2 c =
     let at_told = c.before.before in
     let at_call = at_told.before.before in
     let a = at_call.before.before.before.before.args in
-    let found = ap of_revolution (sym at_told.found2.given.1) ∙ (rw at_call.before.edition-of.ensures at at_call.revolution.ensures) in
+    let found = ap of_revolution (sym at_told.asked2.given.1) ∙ (rw at_call.before.edition-of.ensures at at_call.revolution.ensures) in
     let told = direct_flux_refused (edition_of a.edition) a.image.now a.track a.revolution _ found in
     pass_refusal a.out.now (ap part_numbers told) c.code.ensures
 
@@ -66,11 +66,11 @@ flux-part-spec =
     (tie.spec
     edition-of-requires
     revolution-requires
-    enum-known-found
+    enum-known-asked
     flux-of-requires
     slice-aggregate-give
     give-requires
-    enum-known-found-2
+    enum-known-asked-2
     code-requires
     same_length
     returns

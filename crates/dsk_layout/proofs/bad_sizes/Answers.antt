@@ -2,7 +2,6 @@
 use Prim.Native.Nat.{◌≤◌}
 use native.Mathlib.Omega.{arith}
 use Rattle.dsk_layout.proofs.LayoutLaws.{blocks_product}
-use borrow.Author.Rules.{rules}
 use Rattle.dsk_layout.proofs.bad_sizes.Goals as goal
 
 pub overflow_mul-result : goal.overflow_mul-result

@@ -1,7 +1,6 @@
 -- A product of two bytes.
 use native.Mathlib.Omega.{arith}
 use Rattle.dsk_fields.proofs.Strides.{bytes_product}
-use borrow.Author.Rules.{rules}
 use Rattle.dsk_layout.proofs.block_count.Goals as goal
 
 pub overflow_mul-result : goal.overflow_mul-result

@@ -2,7 +2,6 @@
 use mathlib.Core.Path.{sym, ◌∙◌}
 use native.Mathlib.Omega.{arith}
 use Rattle.dsk_layout.proofs.LayoutLaws.{bytes, bad_numbers_lem, bad_sizes_lem, accepted}
-use borrow.Author.Rules.{rules}
 use Rattle.dsk_layout.proofs.check.Goals as goal
 
 pub returns-then-bad_numbers : goal.returns-then-bad_numbers

@@ -1,7 +1,6 @@
 -- A product of a byte and at most 6,144 bytes.
 use native.Mathlib.Omega.{arith}
 use Rattle.dsk_fields.proofs.Strides.{sectors_product}
-use borrow.Author.Rules.{rules}
 use Rattle.dsk_layout.proofs.track_data.Goals as goal
 
 pub overflow_mul-result : goal.overflow_mul-result

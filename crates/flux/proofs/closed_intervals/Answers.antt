@@ -1,6 +1,5 @@
 -- The places that both lists have are those of the shorter, and the closing words are wanted.
 use mathlib.Core.Bool.{true}
-use borrow.Author.Rules.{rules}
 use Rattle.flux.proofs.ReadInto.{other_places}
 use Rattle.flux.proofs.closed_intervals.Goals as goal
 

@@ -1,11 +1,5 @@
 -- The count is that of the definition. The loop's invariant: what is counted, and the closing words from word i on, make up all.
-use mathlib.Core.Path.{◌≡◌}
-use Prim.Native.Nat.{◌+◌, ◌-◌, ◌≤◌}
 use native.Mathlib.Omega.{arith}
-use lib.ListN.{drop}
-use borrow.Author.Rules.{rules}
-use Rattle.flux.specs.Coding.{words_of}
-use Rattle.flux.specs.Reading.{closing_words}
 use Rattle.flux.proofs.WordLaws.{closing_zero, closing_close, closing_end}
 use Rattle.flux.proofs.count_closing.Goals as goal
 

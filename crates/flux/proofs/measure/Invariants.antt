@@ -1,17 +1,9 @@
 -- Measuring answers what the definition gives for so much room. The loop's invariant: every time before i can be expressed, and the
 -- count is that of their words, or above what there is room for if all the words are.
-use mathlib.Core.Path.{◌≡◌, sym, ap, ◌∙◌}
-use mathlib.Core.List.{[], ◌∷◌}
-use Prim.Native.Nat.{ℕ, ◌+◌, ◌*◌, ◌-◌, ◌≤◌, ◌<◌}
-use native.Mathlib.Omega.{arith}
-use lib.ListN.{length, get_or, drop}
-use borrow.Author.Rules.{rules}
-use borrow.Author.Tests.{lt-ltb, le-ltb}
-use Rattle.flux.specs.Coding.{bytes_of}
+use mathlib.Core.Path.{◌≡◌}
+use Prim.Native.Nat.{◌+◌, ◌-◌, ◌≤◌, ◌<◌}
+use lib.ListN.{length, drop}
 use Rattle.flux.specs.Writing.{words_for, first_inexpressible}
-use Rattle.flux.specs.Answers.{refused, gives, time_refused}
-use Rattle.flux.proofs.TimeLaws.{expressed, length_bytes, first_here, first_next, first_end, size_next, words_end}
-use Rattle.flux.proofs.AnswerLaws.{refused_by}
 use Rattle.flux.proofs.measure.Given as goal
 
 abbrev pub invariant-loop-i : goal.invariant-loop-i

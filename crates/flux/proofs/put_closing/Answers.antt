@@ -1,6 +1,5 @@
 -- The place is there where numbers are wanted, and is set just then.
 use native.Mathlib.Omega.{arith}
-use borrow.Author.Rules.{rules}
 use Rattle.flux.proofs.put_closing.Goals as goal
 
 pub offset_bounds-closings-n : goal.offset_bounds-closings-n

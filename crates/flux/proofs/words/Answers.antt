@@ -1,7 +1,6 @@
 -- What is measured is the answer; the words are put where they fit, and nothing is put where the answer is a refusal.
 use mathlib.Core.Path.{sym, ap, ◌∙◌}
 use lib.ListN.{length}
-use borrow.Author.Rules.{rules}
 use Rattle.flux.specs.Answers.{of_written, buffer_after, writing}
 use Rattle.flux.proofs.AnswerLaws.{written_fits, refused_keeps}
 use Rattle.flux.proofs.words.Goals as goal

@@ -1,13 +1,7 @@
 -- A step answers what the definition gives. The loop's invariant: the definition, from word i on with what is pending there,
 -- gives what it gives from the cursor on; what is pending is bounded, so that no sum wraps.
-use mathlib.Core.Path.{◌≡◌, refl, sym, ◌∙◌}
-use Prim.Native.Nat.{◌*◌, ◌-◌, ◌≤◌}
+use mathlib.Core.Path.{refl, sym, ◌∙◌}
 use native.Mathlib.Omega.{arith}
-use lib.ListN.{length, drop}
-use borrow.Author.Rules.{rules}
-use Rattle.flux.specs.Coding.{words_of, flux_limit}
-use Rattle.flux.specs.Reading.{zero_ticks}
-use Rattle.flux.specs.Answers.{step_from}
 use Rattle.flux.proofs.WordLaws.{good_size, step_zero, step_close, step_end}
 use Rattle.flux.proofs.AnswerLaws.{refused_by}
 use Rattle.flux.proofs.Cursor.step.Goals as goal

@@ -1,0 +1,12 @@
+-- The loop goes down from n. Its invariant: least is the shortest of the durations from k on.
+use mathlib.Core.Path.{◌≡◌}
+use Prim.Native.Nat.{◌-◌, ◌<◌, ◌≤◌}
+use Rattle.scp_tracks.specs.Tracks.{duration_at}
+use Rattle.scp_speed.specs.Durations.{shortest_from}
+use Rattle.scp_speed.proofs.shortest.Given as goal
+
+abbrev pub invariant-loop-k : goal.invariant-loop-k
+invariant-loop-k l = (l.n < 256) × (l.k ≤ l.n) × (l.least ≡ shortest_from (duration_at l.image l.e) l.k (l.n - l.k))
+
+abbrev pub decreases-loop-k : goal.decreases-loop-k
+decreases-loop-k l = l.k
