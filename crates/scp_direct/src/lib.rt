@@ -1,5 +1,7 @@
 // A track, a revolution or its flux without the walk over the whole image: each call looks at the header, one entry of the table, that
 // track's header and the records of its revolutions, and at nothing else. It may answer on an image that is faulty elsewhere.
+#![tactic(auto)]
+
 ghost use Rattle.std.specs.Prelude.{◌≡◌, ◌+◌};
 ghost use Rattle.scp.specs.Answers.{of_track, of_revolution};
 ghost use Rattle.scp_direct.specs.Direct.{direct_entry, direct_track, direct_revolution, direct_part, direct_start};

@@ -1,0 +1,13 @@
+-- What is found has the answer's number and values.
+use mathlib.Core.Path.{ap, ◌∙◌}
+use Rattle.scp_lookup.specs.declared.Entry.{Entry}
+use Rattle.scp_lookup.specs.Lookups.{track_on}
+use Rattle.scp.specs.Answers.{of_track}
+use Rattle.scp_direct.proofs.DirectLaws.{direct_track_is}
+use Rattle.scp_direct.proofs.track.Goals as goal
+
+pub returns : goal.returns
+returns c =
+    let a = c.args in
+    ap of_track c.track_on.ensures ∙ ap (λ (e : Entry). of_track (track_on a.image.now a.track e)) c.direct_entry-found.ensures
+    ∙ direct_track_is _ _ _

@@ -1,0 +1,8 @@
+-- The bytes are those of the definition.
+use Rattle.std.proofs.Common.{refl, rules}
+use Rattle.octets.specs.Numbers.{le_bytes}
+use Rattle.scp_rewrite.proofs.four_bytes.Goals as goal
+
+pub returns : goal.returns
+unfolding le_bytes
+returns c = refl
