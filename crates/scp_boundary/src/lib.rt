@@ -1,4 +1,6 @@
 // How a speed passes to C and Rust: as floats put to the start of a lent buffer (include/scp.h).
+#![tactic(auto)]
+
 ghost use Rattle.std.specs.Prelude.{◌≡◌, length};
 ghost use Rattle.scp.specs.Answers.{of_speed_only};
 ghost use Rattle.boundary.specs.Boundary.{code_of, within, out_after};

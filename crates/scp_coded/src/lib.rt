@@ -1,5 +1,7 @@
 // The calls that ask an image, answered by a code and by values put to the start of a lent buffer (include/scp.h). The edition is a number:
 // 14 is 1.4, any other 1.6.
+#![tactic(auto)]
+
 ghost use Rattle.std.specs.Prelude.{◌≡◌, length};
 ghost use Rattle.scp_fields.specs.Editions.{edition_of};
 ghost use Rattle.scp.specs.Answers.{validate_answer, header_answer, footer_answer, track_answer, revolution_answer, flux_answer, speed_answer, track_speed_answer};

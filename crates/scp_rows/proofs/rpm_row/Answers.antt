@@ -1,0 +1,14 @@
+-- A speed that is a number has a bit pattern.
+use mathlib.Core.Path.{sym, ap, subst, ◌∙◌}
+use Rattle.scp.specs.Answers.{of_speed_only}
+use Rattle.scp_rows.specs.Rows.{row_of, Real}
+use borrow.Author.Rules.{rules}
+use Rattle.scp_rows.proofs.rpm_row.Goals as goal
+
+pub float_to_bits-x : goal.float_to_bits-x
+float_to_bits-x c =
+    (subst Real (ap of_speed_only c.in-Rpm.is) c.requires).0
+
+pub returns-in-Rpm : goal.returns-in-Rpm
+returns-in-Rpm c =
+    c.values_row.ensures ∙ ap row_of (ap of_speed_only (sym c.in-Rpm.is))
