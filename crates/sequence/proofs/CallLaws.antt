@@ -1,21 +1,17 @@
 -- Rows of calls: how many there are, what each is, and that demand 3 speaks of each.
-use Prim.Native.Nat.{ℕ, zero, suc, ◌+◌, ◌*◌, ◌%◌, ◌<◌, ◌≤◌}
+use Prim.Native.Nat.{ℕ, zero, suc, ◌+◌, ◌*◌, ◌%◌, ◌<◌}
 use mathlib.Core.Path.{◌≡◌, refl, sym, ap, ◌∙◌}
-use mathlib.Core.List.{List, [], ◌∷◌, ◌++◌, map}
+use mathlib.Core.List.{List, [], ◌∷◌}
 use mathlib.Core.Bool.{Bool, true, false, cond}
 use native.Mathlib.Omega.{arith}
-use lib.ListN.{length, take, drop, get_or, replicate, length-append}
-use lib.Seq.{length-take-le}
+use lib.ListN.{length, drop, get_or, length-append}
 use lib.Dec.{eqb}
 use borrow.Author.Tests.{eq-eqb, ne_eqb}
-use Rattle.octets.specs.Numbers.{Octets, unsigned64}
+use Rattle.octets.specs.Numbers.{Octets}
 use Rattle.octets.proofs.Numbers.{drop_octets, take_octets}
-use Rattle.octets.specs.Sums.{byte_sum}
-use lib.Ieee.{binary64, to_bits}
 use Rattle.scp_fields.specs.declared.Edition.{Edition}
 use Rattle.scp_fields.specs.Editions.{edition_of}
-use Rattle.scp.specs.declared.FooterData.{FooterData}
-use Rattle.scp.specs.Answers.{Answer, refused, none, numbers, footer, speeds, bytes, of_footer_data}
+use Rattle.scp.specs.Answers.{Answer}
 use Rattle.scp_book.specs.Book as book
 use Rattle.scp_book.specs.Book.{Call, after, answers}
 use Rattle.scp_book.specs.Claim.{Fits, AllFit}

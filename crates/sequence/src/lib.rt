@@ -1,4 +1,6 @@
 // A sequence of calls on one SuperCard Pro image, given and answered as lent lists of numbers: 7 for a call, 16 for an answer.
+#![tactic(auto)]
+
 ghost use Rattle.std.specs.Prelude.{◌≡◌, ◌+◌, ◌*◌, ◌/◌, ◌≤◌, length};
 ghost use Rattle.scp_rewrite.specs.Rewriting.{after_rewrite};
 ghost use Rattle.scp_rewrite.specs.Answering.{rewrite_answer};

@@ -3,7 +3,6 @@ use mathlib.Core.Path.{sym, ap, ◌∙◌}
 use Rattle.scp_book.specs.Book.{Call, answer, after}
 use Rattle.scp_rows.specs.Rows.{row_of}
 use Rattle.sequence.proofs.CallLaws.{call_rewrite, call_question, rewrite_same, question_same}
-use borrow.Author.Rules.{rules}
 use Rattle.sequence.proofs.call_row.Goals as goal
 
 pub returns-then-kind-eq-REWRITE : goal.returns-then-kind-eq-REWRITE

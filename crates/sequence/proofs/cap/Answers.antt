@@ -1,7 +1,6 @@
 -- The largest is compared first.
 use mathlib.Core.Path.{sym}
 use borrow.Author.Tests.{le-leb, lt-leb}
-use borrow.Author.Rules.{rules}
 use Rattle.sequence.proofs.cap.Goals as goal
 
 pub returns-then-n-le4294967295 : goal.returns-then-n-le4294967295

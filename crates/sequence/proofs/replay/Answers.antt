@@ -5,7 +5,6 @@ use native.Mathlib.Omega.{arith}
 use lib.ListN.{length}
 use Rattle.sequence.proofs.ReplayLaws.{refused_replay, done_replay}
 use Rattle.sequence.specs.Calls.{call_size}
-use borrow.Author.Rules.{rules}
 use Rattle.sequence.proofs.replay.Goals as goal
 
 pub returns-then-answers-calls : goal.returns-then-answers-calls
@@ -19,5 +18,5 @@ pub returns : goal.returns
 returns c =
     let a = c.args in
     let places : 16 * (length a.calls.now / call_size) ≤ length a.answers.now = omega arith in
-    let all = done_replay _ _ _ _ places (λ i. (c.type_inv.image i).fits) (λ i. (c.type_inv.words i).fits) c.run_calls.ensures.image_after c.run_calls.ensures.answers_after in
+    let all = done_replay _ _ _ _ places (λ i. (c.slice_known-1.given i).fits) (λ i. (c.type_inv.words i).fits) c.run_calls.ensures.image_after c.run_calls.ensures.answers_after in
     record { result_value = all.0; replays = all.1 }

@@ -2,13 +2,12 @@
 use mathlib.Core.Path.{sym, ap, ◌∙◌}
 use Rattle.scp_rewrite.specs.Answering.{of_rewritten}
 use Rattle.scp_rows.specs.Rows.{row_of}
-use borrow.Author.Rules.{rules}
 use Rattle.sequence.proofs.rewrite_row.Goals as goal
 
 pub returns-in-Done : goal.returns-in-Done
 returns-in-Done c =
     record {
-      value = c.plain-Row.ensures ∙ ap row_of (ap of_rewritten (sym c.in-Done.is) ∙ c.rewrite-found.ensures.result_value);
+      value = c.plain_row.ensures ∙ ap row_of (ap of_rewritten (sym c.in-Done.is) ∙ c.rewrite-found.ensures.result_value);
       image_after = c.rewrite-found.ensures.image_after;
     }
 

@@ -1,14 +1,14 @@
 -- The loop's invariant: the calls from row i on, made on the image as it stands, end in the final bytes, and their rows are still to be
 -- written.
-use mathlib.Core.Path.{◌≡◌, refl, sym, ap, ◌∙◌}
-use Prim.Native.Nat.{◌-◌, ◌*◌, ◌/◌, ◌≤◌}
+use mathlib.Core.Path.{refl, sym, ◌∙◌}
+use Prim.Native.Nat.{◌/◌}
 use native.Mathlib.Omega.{arith}
 use lib.ListN.{length}
 use borrow.Author.Rules.{rules}
-use Rattle.flux.proofs.Wrote.{Wrote, retell, moved, whole_is}
+use Rattle.flux.proofs.Wrote.{retell, moved, whole_is}
 use Rattle.scp_book.specs.Book as book
 use Rattle.scp_book.specs.Book.{final_bytes}
-use Rattle.sequence.specs.Calls.{call_size, call_at, calls_from, rows_of}
+use Rattle.sequence.specs.Calls.{call_size, call_at}
 use Rattle.copies.proofs.CopyLaws.{copy_fits}
 use Rattle.sequence.proofs.Running.{room, row_fits, final_start, final_next, final_end, wrote_start, wrote_next, rows_end}
 use Rattle.sequence.proofs.run_calls.Goals as goal
@@ -25,15 +25,15 @@ loop-i-preserved c =
     let calls = a.calls.now in
     let words = a.words.now in
     let below = c.loop-i-test.true in
-    let made = (c.call_row-row.ensures.value, c.call_row-row.ensures.image_after) in
+    let made = c.call_row-row.ensures in
     let whole = room calls words a.image.now a.answers.now l.invariant.1 in
-    let fits = row_fits (book.answer l.image (call_at calls words l.i)) l.answers a.answers.now l.i (length calls / call_size) made.0 l.invariant.1 l.invariant.4.same below in (
+    let fits = row_fits (book.answer l.image (call_at calls words l.i)) l.answers a.answers.now l.i (length calls / call_size) made.value l.invariant.1 l.invariant.4.same below in (
       search rules,
       l.invariant.1,
       omega arith,
-      final_next calls words _ _ _ l.i _ below made.1 l.invariant.3,
+      final_next calls words _ _ _ l.i _ below made.image_after l.invariant.3,
       moved (sym (c.numbers.ensures.out_after ∙ copy_fits l.answers c.call_row-row.result _ fits)) refl
-          (wrote_next calls words _ _ _ _ _ _ l.i _ below whole made.1 made.0 l.invariant.4),
+          (wrote_next calls words _ _ _ _ _ _ l.i _ below whole made.image_after made.value l.invariant.4),
     )
 
 pub shape_of-image : goal.shape_of-image

@@ -1,16 +1,12 @@
 -- The loop's invariant: the calls from row i on, made on the image as it stands, end in the final bytes, and their rows are still to be
 -- written.
-use mathlib.Core.Path.{◌≡◌, refl, sym, ap, ◌∙◌}
-use Prim.Native.Nat.{◌-◌, ◌*◌, ◌/◌, ◌≤◌}
-use native.Mathlib.Omega.{arith}
+use mathlib.Core.Path.{◌≡◌}
+use Prim.Native.Nat.{◌-◌, ◌*◌, ◌≤◌}
 use lib.ListN.{length}
-use borrow.Author.Rules.{rules}
-use Rattle.flux.proofs.Wrote.{Wrote, retell, moved, whole_is}
+use Rattle.flux.proofs.Wrote.{Wrote}
 use Rattle.scp_book.specs.Book as book
 use Rattle.scp_book.specs.Book.{final_bytes}
-use Rattle.sequence.specs.Calls.{call_size, call_at, calls_from, rows_of}
-use Rattle.copies.proofs.CopyLaws.{copy_fits}
-use Rattle.sequence.proofs.Running.{room, row_fits, final_start, final_next, final_end, wrote_start, wrote_next, rows_end}
+use Rattle.sequence.specs.Calls.{calls_from, rows_of}
 use Rattle.sequence.proofs.run_calls.Given as goal
 
 abbrev pub invariant-loop-i : goal.invariant-loop-i
