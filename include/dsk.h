@@ -1,6 +1,6 @@
 /* Standard DSK disk images: the proved library as C functions.
  *
- * Link with libdsk_c.a, which `rt staticlib dsk_c` proves and builds (x86-64). C99 and C++.
+ * Link with libdsk_c.a, which `rt lib` in crates/dsk_c proves and builds (x86-64). C99 and C++.
  *
  * Every function answers for every image and every argument, and ends. It returns 0, or a refusal: its number (enum dsk_refusal)
  * + 256 x its position; see dsk_refusal_number and dsk_refusal_position. On a refusal every lent buffer holds what it held. On success a

@@ -1,6 +1,6 @@
 /* SuperCard Pro (SCP) floppy flux images, revisions 1.4 and 1.6: the proved library as C functions.
  *
- * Link with libscp_c.a, which `rt staticlib scp_c` proves and builds (x86-64). C99 and C++.
+ * Link with libscp_c.a, which `rt lib` in crates/scp_c proves and builds (x86-64). C99 and C++.
  *
  * Every function answers for every image and every argument, and ends. It returns 0, or a refusal: its number (enum scp_refusal)
  * + 256 x its position; see scp_refusal_number and scp_refusal_position. On a refusal every lent buffer holds what it held. On

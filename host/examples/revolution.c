@@ -1,7 +1,7 @@
 /* Prints a revolution of an SCP image: its duration, its words with their file offset, and its intervals in ticks. The image is read by
  * revision 1.6, or by the one that is named.
  *
- *     cc -Iinclude host/examples/revolution.c target/staticlib/libscp_c.a -o revolution
+ *     cc -Iinclude host/examples/revolution.c crates/scp_c/out/libscp_c.a -o revolution
  *     ./revolution crates/scp_test/data/a.scp 0 0
  *     ./revolution OLD.scp 0 0 1.4 */
 #include "scp.h"

@@ -2,7 +2,7 @@
 """Prints a revolution of an SCP image: its duration, its words with their file offset, and its intervals in ticks. The image is read by
 revision 1.6, or by the one that is named.
 
-    cc -shared -Wl,--whole-archive target/staticlib/libscp_c.a -Wl,--no-whole-archive -o libscp.so
+    cc -shared -Wl,--whole-archive crates/scp_c/out/libscp_c.a -Wl,--no-whole-archive -o libscp.so
     python3 host/examples/revolution.py ./libscp.so crates/scp_test/data/a.scp 0 0
     python3 host/examples/revolution.py ./libscp.so OLD.scp 0 0 1.4
 """

@@ -1,6 +1,6 @@
 /* Prints each sector of a DSK image, in the order of the file: its identity C, H, R, N, and the file offset and length of its data.
  *
- *     cc -Iinclude host/examples/sectors.c target/staticlib/libdsk_c.a -o sectors
+ *     cc -Iinclude host/examples/sectors.c crates/dsk_c/out/libdsk_c.a -o sectors
  *     ./sectors FILE */
 #include "dsk.h"
 

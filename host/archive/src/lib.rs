@@ -1,10 +1,11 @@
-//! For the build script of a wrapper: finds an archive of the proved library, or has `rt staticlib` build it.
+//! For the build script of a wrapper: finds an archive of the proved library, or has `rt lib` build it.
 //!
 //! `SCP_ARCHIVE_DIR` names a folder that holds built archives, such as `libscp_c.a`; then nothing is built. A package that depends on the
 //! wrapper gets the identity of the toolchain that proved its archive, such as `DEP_SCP_C_TOOLCHAIN`.
 #![forbid(unsafe_code)]
 #![warn(missing_docs)]
 
+use std::collections::{BTreeSet, HashMap};
 use std::fs::File;
 use std::io;
 use std::path::{Path, PathBuf};
@@ -63,11 +64,12 @@ impl Archive<'_> {
             println!("cargo:rerun-if-changed={}", source.display());
         }
         let _turn = turn(&root);
-        let folder = root.join("target").join("staticlib");
+        let crate_folder = root.join("crates").join(self.crate_name);
+        let folder = crate_folder.join("out");
         let toolchain = self.rt(&root, &["version"]).trim().to_string();
         if !self.is_built(&folder, &sources, &toolchain) {
             let start = SystemTime::now();
-            self.rt(&root, &["staticlib", self.crate_name]);
+            self.rt(&crate_folder, &["lib"]);
             if let Err(error) = self.mark(&folder, start, &toolchain) {
                 fail(&format!("{} in {} cannot be marked: {error}", self.file(), folder.display()));
             }
@@ -113,15 +115,21 @@ impl Archive<'_> {
         sources
     }
 
-    /// The crates below it as the list has them, and its own.
+    /// The crates below it, at any remove, and its own: a line of the list is `NAME: DEP DEP ..` or `NAME staticlib: DEP ..`.
     fn crates(&self, list: &str) -> Vec<String> {
-        let line = list.lines().find_map(|line| line.strip_prefix(self.crate_name)?.strip_prefix(':')).unwrap_or_default();
-        line.split_whitespace().chain([self.crate_name]).map(str::to_string).collect()
+        let lines = list.lines().filter_map(|line| line.split('#').next()?.split_once(':'));
+        let uses: HashMap<_, _> = lines.filter_map(|(head, names)| Some((head.split_whitespace().next()?, names))).collect();
+        let (mut found, mut left) = (BTreeSet::from([self.crate_name]), vec![self.crate_name]);
+        while let Some(name) = left.pop() {
+            let below = uses.get(name).into_iter().flat_map(|names| names.split_whitespace());
+            left.extend(below.filter(|name| found.insert(*name)));
+        }
+        found.into_iter().map(str::to_string).collect()
     }
 
-    /// What a command of the toolchain prints.
-    fn rt(&self, root: &Path, words: &[&str]) -> String {
-        match Command::new("rt").args(words).current_dir(root).output() {
+    /// What a command of the toolchain prints that runs in a folder.
+    fn rt(&self, folder: &Path, words: &[&str]) -> String {
+        match Command::new("rt").args(words).current_dir(folder).output() {
             Ok(done) if done.status.success() => String::from_utf8_lossy(&done.stdout).into_owned(),
             Ok(done) => fail(&format!(
                 "`rt {}` failed ({}):\n{}{}",
@@ -145,7 +153,7 @@ impl Archive<'_> {
 fn turn(root: &Path) -> Option<File> {
     let locked = File::open(root.join("crates.txt")).and_then(|list| list.lock().map(|()| list));
     if let Err(error) = &locked {
-        println!("cargo:warning=crates.txt cannot be locked ({error}): nothing else may run `rt staticlib` meanwhile");
+        println!("cargo:warning=crates.txt cannot be locked ({error}): nothing else may run `rt lib` meanwhile");
     }
     locked.ok()
 }
@@ -174,7 +182,7 @@ mod tests {
     use std::path::{Path, PathBuf};
     use std::time::{Duration, SystemTime};
 
-    const LIST: &str = "# NAME: the crates it depends on\nflux:\nscp: flux\nscp_c: flux scp\ndsk_c: dsk";
+    const LIST: &str = "# NAME: the crates it depends on\nflux:\nscp: flux\nscp_c staticlib: flux scp # both\nscp_all staticlib: scp\ndsk_c: dsk";
 
     #[test]
     fn an_archive_is_made_of_the_crates_below_and_its_own() {
@@ -183,6 +191,11 @@ mod tests {
         assert_eq!(crates("dsk_c"), ["dsk", "dsk_c"]);
         assert_eq!(crates("scp"), ["flux", "scp"]);
         assert_eq!(crates("dsk"), ["dsk"]); // not listed
+    }
+
+    #[test]
+    fn what_a_crate_below_stands_on_is_below_too() {
+        assert_eq!(Archive { crate_name: "scp_all" }.crates(LIST), ["flux", "scp", "scp_all"]);
     }
 
     #[test]
