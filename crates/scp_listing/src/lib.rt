@@ -1,5 +1,7 @@
 // The listing of an image by edition 1.6, written to standard output. The image is opened once, when it is validated: what is valid is then
 // read by its fields, each by its one reading in `scp_fields`, `scp_tracks` and `flux`.
+#![tactic(auto)]
+
 ghost use Rattle.std.specs.Prelude.{◌≡◌, false, length};
 ghost use Rattle.flux.specs.Coding.{bad_flux_size};
 ghost use Rattle.scp_listing.specs.Counting.{Counts};
@@ -15,25 +17,26 @@ use scp_fields::Edition;
 // The most bytes that the listing program takes.
 pub const INPUT_LIMIT: usize = 65_536;
 
-fn text(s: &[u8]) {
-    io::write_all(1, s);
+// A write that fails is passed over: no answer depends on it.
+fn text(rt: &impl Print, s: &[u8]) {
+    let _ = rt.write_all(s);
 }
 
-fn newline() {
-    text(b"\n");
+fn newline(rt: &impl Print) {
+    text(rt, b"\n");
 }
 
 // A name and a number.
-fn field(name: &[u8], n: u64) {
-    text(name);
-    io::print_decimal(1, n);
+fn field(rt: &impl Print, name: &[u8], n: u64) {
+    text(rt, name);
+    let _ = rt.print(n);
 }
 
 // The line of a refusal.
-fn print_refusal(r: Refusal) {
-    field(b"refused ", r.number as u64);
-    field(b" at ", r.position);
-    newline();
+fn print_refusal(rt: &impl Print, r: Refusal) {
+    field(rt, b"refused ", r.number as u64);
+    field(rt, b" at ", r.position);
+    newline(rt);
 }
 
 // How many intervals flux has, its open time, and the number of its last closing word, 0 where there is no interval.
@@ -87,34 +90,34 @@ fn count_flux(flux: &[u8]) -> Counted
 }
 
 // The number of the last closing word, or a dash where there is none.
-fn print_last(counted: Counted) {
+fn print_last(rt: &impl Print, counted: Counted) {
     if counted.intervals == 0 {
-        text(b" last -");
+        text(rt, b" last -");
     } else {
-        field(b" last ", counted.last as u64);
+        field(rt, b" last ", counted.last as u64);
     }
 }
 
-fn print_flux(flux: &[u8]) {
+fn print_flux(rt: &impl Print, flux: &[u8]) {
     let counted = count_flux(flux);
-    field(b" intervals ", counted.intervals);
-    field(b" open ", counted.open);
-    print_last(counted);
+    field(rt, b" intervals ", counted.intervals);
+    field(rt, b" open ", counted.open);
+    print_last(rt, counted);
 }
 
 // The line of revolution k of track t, whose header stands at the entry.
-fn print_revolution(image: &[u8], t: u32, entry: u32, k: u32) {
+fn print_revolution(rt: &impl Print, image: &[u8], t: u32, entry: u32, k: u32) {
     let data = scp_tracks::revolution_data(image, entry, k);
-    field(b"track ", t as u64);
-    field(b" turn ", k as u64);
-    field(b" ticks ", data.duration as u64);
-    field(b" words ", data.words as u64);
-    print_flux(scp_lookup::flux_of(image, data));
-    newline();
+    field(rt, b"track ", t as u64);
+    field(rt, b" turn ", k as u64);
+    field(rt, b" ticks ", data.duration as u64);
+    field(rt, b" words ", data.words as u64);
+    print_flux(rt, scp_lookup::flux_of(image, data));
+    newline(rt);
 }
 
 // The lines of a track's revolutions; none where its entry is 0.
-fn print_track(image: &[u8], t: u32) {
+fn print_track(rt: &impl Print, image: &[u8], t: u32) {
     let entry = scp_fields::track_entry(image, t);
     if entry == 0 {
         return;
@@ -122,7 +125,7 @@ fn print_track(image: &[u8], t: u32) {
     let revolutions = scp_fields::revolutions(image) as u32;
     let mut k: u32 = 0;
     while k < revolutions {
-        print_revolution(image, t, entry, k);
+        print_revolution(rt, image, t, entry, k);
         k += 1;
     }
 }
@@ -141,45 +144,45 @@ fn count_tracks(image: &[u8]) -> u64 {
 }
 
 // The line of the image.
-fn print_image(image: &[u8]) {
-    field(b"ok ", image.len() as u64);
-    field(b" tracks ", count_tracks(image));
-    field(b" turns ", scp_fields::revolutions(image) as u64);
-    field(b" sum ", scp_fields::checksum(image) as u64);
-    newline();
+fn print_image(rt: &impl Print, image: &[u8]) {
+    field(rt, b"ok ", image.len() as u64);
+    field(rt, b" tracks ", count_tracks(image));
+    field(rt, b" turns ", scp_fields::revolutions(image) as u64);
+    field(rt, b" sum ", scp_fields::checksum(image) as u64);
+    newline(rt);
 }
 
 // The lines of all tracks.
-fn print_tracks(image: &[u8]) {
+fn print_tracks(rt: &impl Print, image: &[u8]) {
     let mut t: usize = 0;
     while t < scp_fields::TRACK_SLOTS {
-        print_track(image, t as u32);
+        print_track(rt, image, t as u32);
         t += 1;
     }
 }
 
 // Validates an image and writes its listing: what refuses it, or a line for the image and one for each revolution of each present track.
-pub fn list(image: &[u8]) -> Validated
+pub fn list(rt: &impl Print, image: &[u8]) -> Validated
     ensures { of_validated result ≡ validate_answer V1_6 image.now }
 {
     let answer = scp::validate(image, Edition::V1_6);
     match answer {
         Validated::Valid => {
-            print_image(image);
-            print_tracks(image);
+            print_image(rt, image);
+            print_tracks(rt, image);
         }
         Validated::Refused(r) => {
-            print_refusal(r);
+            print_refusal(rt, r);
         }
     }
     answer
 }
 
 // What is printed of input that is longer than the listing takes: refusal 1.
-pub fn too_long() -> Refusal
+pub fn too_long(rt: &impl Print) -> Refusal
     ensures { result ≡ refusal 1 0 }
 {
     let r = refusals::refuse(refusals::SIZE, 0);
-    print_refusal(r);
+    print_refusal(rt, r);
     r
 }
