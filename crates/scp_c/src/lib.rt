@@ -1,6 +1,8 @@
 // The boundary to C and Rust: each call returns 0, or a refusal's number + 256 x its position, and puts its values to a lent buffer.
 // A slice passes as a pointer and a length (include/scp.h), and an edition as a number: 14 is 1.4, any other 1.6. What a call on flux, on
 // text, a question or a direct call does stands in `flux_coded`, `utf8_coded`, `scp_coded` and `direct_coded`.
+#![tactic(auto)]
+
 ghost use Rattle.std.specs.Prelude.{◌≡◌, length};
 ghost use Rattle.scp_fields.specs.Editions.{edition_of};
 ghost use Rattle.flux.specs.Answers.{step_at, reading, closed_times, closed_numbers, writing, buffer_after};

@@ -1,6 +1,6 @@
 -- Rewrites as rows: row i tells replay the i-th of them, as its track and revolution are there and its duration has 32 bits.
 use Prim.Native.Nat.{ℕ, zero, suc, ◌+◌, ◌*◌, ◌%◌, ◌<◌, ◌≤◌}
-use mathlib.Core.Path.{◌≡◌, refl, ap, ◌∙◌}
+use mathlib.Core.Path.{◌≡◌, refl, ap, ap₂, ◌∙◌}
 use mathlib.Core.List.{List, [], ◌∷◌, ◌++◌, append_assoc}
 use mathlib.Core.Bool.{Bool, true, false, cond}
 use native.Mathlib.Omega.{arith}
@@ -124,13 +124,9 @@ rows_tell (rewrite v t k d ws ∷ cs) before earlier i at h =
     let size : length (before ++ row) ≡ call_size * (i + 1) = length-append before row ∙ (omega arith) in
     let more = length-append earlier ws in
     let rest = rows_tell cs (before ++ row) (earlier ++ ws) (i + 1) size h.1 in
-    cc (
-      row_tells v t k d ws before (rewrite_rows (length earlier + length ws) cs) earlier (rewrite_words cs) i at h.0,
-      more,
-      rest,
-      append_assoc before row (rewrite_rows (length earlier + length ws) cs),
-      append_assoc earlier ws (rewrite_words cs),
-    )
+    let behind = rewrite_rows (length earlier + length ws) cs in
+    let first = row_tells v t k d ws before behind earlier (rewrite_words cs) i at h.0 in
+    ap₂ (λ (c : Call) (ds : List Call). c ∷ ds) first (rw (more, append_assoc before row behind, append_assoc earlier ws (rewrite_words cs)) at rest)
 
 -- seven numbers each
 rows_length : (start : ℕ) (cs : List Call) → AllNarrow cs → length (rewrite_rows start cs) ≡ call_size * length cs
