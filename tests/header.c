@@ -59,6 +59,10 @@ static void ask(const struct sample *a) {
     EXPECT(scp_revolution(image, size, edition, 0, 0, out, 3) == 0 && out[0] == 8000000 && out[1] == 4 && out[2] == offset);
     EXPECT(scp_revolution(image, size, edition, 0, 1, out, 3) == SCP_REVOLUTION);
     EXPECT(scp_flux(image, size, edition, 0, 0, flux, 8) == 0 && memcmp(flux, image + offset, 8) == 0);
+    EXPECT(scp_flux_part(image, size, edition, 0, 0, out, 2) == 0 && out[0] == offset && out[1] == 8);
+    EXPECT(scp_flux_part(image, size, edition, 0, 0, out, 1) == SCP_PLACES);
+    EXPECT(scp_flux_part(image, size, edition, 0, 1, out, 1) == SCP_REVOLUTION);
+    EXPECT(scp_flux_part(image, size, edition, 1, 0, out, 1) == SCP_ABSENT);
     EXPECT(scp_speed(image, size, edition, 0, 0, floats, 2) == 0 && floats[0] == 1.0 && floats[1] == 300.0);
     EXPECT(scp_track_speed(image, size, edition, 0, floats, 3) == 0 && floats[1] == 300.0 && floats[2] == 300.0);
 }
@@ -80,12 +84,18 @@ static void ask_directly(struct sample *a) {
     EXPECT(scp_direct_flux(image, size, edition, 0, 0, flux, 8) == 0 && memcmp(flux, image + offset, 8) == 0);
     EXPECT(scp_direct_flux(image, size, edition, 0, 0, flux, 7) == SCP_PLACES);
     EXPECT(scp_direct_flux(image, size, edition, 0, 1, flux, 7) == SCP_REVOLUTION);
+    EXPECT(scp_direct_flux_part(image, size, edition, 0, 0, out, 2) == 0 && out[0] == offset && out[1] == 8);
+    EXPECT(scp_direct_flux_part(image, size, edition, 0, 0, out, 1) == SCP_PLACES);
+    EXPECT(scp_direct_flux_part(image, size, edition, 0, 1, out, 1) == SCP_REVOLUTION);
+    EXPECT(scp_direct_flux_part(image, size, edition, 1, 0, out, 1) == SCP_ABSENT);
     image[0x14] = 1; /* an entry of track 1, which is not within start to end */
     EXPECT(scp_track(image, size, edition, 0, out, 4) == SCP_SLOT + 256 && scp_flux(image, size, edition, 0, 0, flux, 8) == SCP_SLOT + 256);
     EXPECT(scp_direct_track(image, size, edition, 1, out, 4) == SCP_SLOT + 256);
     EXPECT(scp_direct_track(image, size, edition, 0, out, 4) == 0 && out[2] == a->table_end);
     EXPECT(scp_direct_revolution(image, size, edition, 0, 0, out, 3) == 0 && out[2] == offset);
     EXPECT(scp_direct_flux(image, size, edition, 0, 0, flux, 8) == 0 && memcmp(flux, image + offset, 8) == 0);
+    EXPECT(scp_flux_part(image, size, edition, 0, 0, out, 2) == SCP_SLOT + 256);
+    EXPECT(scp_direct_flux_part(image, size, edition, 0, 0, out, 2) == 0 && out[0] == offset && out[1] == 8);
     image[0x14] = 0;
 }
 
@@ -97,6 +107,10 @@ static void convert(const uint8_t *flux) {
     EXPECT(scp_step(flux, 8, 4, out, 4) == 0 && out[0] == 0 && out[1] == 0 && out[2] == 4 && out[3] == 0);
     EXPECT(scp_step(flux, 8, 1, out, 3) == SCP_PLACES && scp_step(flux, 7, 1, out, 3) == SCP_WORDS);
     EXPECT(scp_intervals(flux, 8, times, 3, out, 2) == 0 && out[0] == 3 && out[1] == 0 && times[1] == 65537);
+    EXPECT(scp_summary(flux, 8, out, 3) == 0 && out[0] == 3 && out[1] == 0 && out[2] == 65937);
+    EXPECT(scp_summary(flux, 4, out, 4) == 0 && out[0] == 1 && out[1] == 65536 && out[2] == 65696);
+    EXPECT(scp_summary(flux, 0, out, 3) == 0 && out[0] == 0 && out[1] == 0 && out[2] == 0);
+    EXPECT(scp_summary(flux, 8, out, 2) == SCP_PLACES && scp_summary(flux, 7, out, 2) == SCP_WORDS);
     EXPECT(scp_words(times, 3, words, 8, out, 1) == 0 && out[0] == 8 && memcmp(words, flux, 8) == 0);
     EXPECT(scp_refusal_number(scp_words(bad, 2, words, 8, out, 1)) == SCP_TIME);
     EXPECT(scp_refusal_position(scp_words(bad, 2, words, 8, out, 1)) == 1);
@@ -149,12 +163,14 @@ static void ask_by_the_other(struct sample *old) {
         EXPECT(scp_track(image, size, edition, 0, out, 4) == SCP_TRACK);
         EXPECT(scp_revolution(image, size, edition, 0, 0, out, 3) == SCP_TRACK);
         EXPECT(scp_flux(image, size, edition, 0, 0, flux, 8) == SCP_TRACK);
+        EXPECT(scp_flux_part(image, size, edition, 0, 0, out, 2) == SCP_TRACK);
         EXPECT(scp_speed(image, size, edition, 0, 0, floats, 2) == SCP_TRACK);
         EXPECT(scp_track_speed(image, size, edition, 0, floats, 3) == SCP_TRACK);
         EXPECT(scp_direct_track(image, size, edition, 0, out, 4) == SCP_TRACK);
         EXPECT(scp_direct_track(image, size, edition, 166, out, 4) == SCP_SLOT + 256 * 166);
         EXPECT(scp_direct_revolution(image, size, edition, 0, 0, out, 3) == SCP_TRACK);
         EXPECT(scp_direct_flux(image, size, edition, 0, 0, flux, 8) == SCP_TRACK);
+        EXPECT(scp_direct_flux_part(image, size, edition, 0, 0, out, 2) == SCP_TRACK);
         EXPECT(scp_rewrite(image, size, edition, 0, 0, 8000000, new_words, 8) == SCP_TRACK);
         EXPECT(scp_replay(image, size, calls, 14, new_words, 8, answers, 32) == 0);
         EXPECT(answers[0] == SCP_TRACK && answers[16] == SCP_ACCEPTED);
