@@ -1,4 +1,6 @@
 // The calls on flux, answered by a code and by values put to the start of a lent buffer (include/scp.h).
+#![tactic(auto)]
+
 ghost use Rattle.std.specs.Prelude.{◌≡◌, length};
 ghost use Rattle.flux.specs.Answers.{step_at, of_filled, reading, closed_times, closed_numbers, writing, buffer_after};
 ghost use Rattle.flux_summary.specs.Summaries.{summarizing};

@@ -1,5 +1,7 @@
 // The editions of the format, and the fields of a SuperCard Pro image's header, table and footer, each with its place and its one reading.
 // Each function is total: past the end a byte reads 0.
+#![tactic(auto)]
+
 ghost use Rattle.std.specs.Prelude.{◌≡◌, ◌<◌, ◌≤◌};
 ghost use Rattle.scp_fields.specs.Editions.{edition_of, slots, last_track, table_end};
 ghost use Rattle.scp_fields.specs.Header.{

@@ -1,6 +1,6 @@
 -- The bytes that an accepted rewrite leaves: its stores lie in the image, off the checksum and off one another, so each reads back and
 -- no other byte moves; the checksum's store lies before 0x10, so it does not move the true sum.
-use Rattle.std.proofs.Common.{◌≡◌, ℕ, ◌+◌, ◌/◌, ◌<◌, ◌≤◌, Bool, true, false, cond, List, length, take, drop, refl, ap, ◌∙◌, inl, inr, zero-add, arith, length-drop, length-take, get_or-drop, get_or-take, ext_get_or}
+use Rattle.std.proofs.Common.{◌≡◌, ℕ, ◌+◌, ◌/◌, ◌<◌, ◌≤◌, Bool, true, false, cond, List, length, take, drop, refl, ap, ◌∙◌, inl, inr, zero-add, arith}
 use native.Mathlib.Decide.{dec_le}
 use lib.Seq.{sets, length-sets, take-length}
 use Rattle.octets.specs.Numbers.{byte_at, Octets, le32_at, le_bytes}

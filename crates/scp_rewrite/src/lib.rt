@@ -1,5 +1,7 @@
 // Rewriting one revolution of a SuperCard Pro image: the stores. What refuses a rewrite is `scp_sharing`'s; where nothing does, the words, the
 // duration and the count are stored, and the checksum moves with each store.
+#![tactic(auto)]
+
 ghost use Rattle.std.specs.Prelude.{◌≡◌, ◌+◌, ◌≤◌, length};
 ghost use Rattle.octets.specs.Numbers.{le_bytes};
 ghost use Rattle.scp_fields.specs.Editions.{table_at};

@@ -1,4 +1,6 @@
 // The row of 16 numbers that each question about a SuperCard Pro image answers: refusal number, position, the values, then zeros.
+#![tactic(auto)]
+
 ghost use Rattle.std.specs.Prelude.{◌≡◌, replicate};
 ghost use Rattle.scp.specs.Answers.{refused, none, bytes, validate_answer, header_answer, of_footer_data, footer_answer, track_answer, revolution_answer, flux_answer, of_speed_only, speed_answer, track_speed_answer};
 ghost use Rattle.scp_book.specs.Book.{asked};

@@ -1,4 +1,6 @@
 // The values of what a SuperCard Pro image answers, as numbers of 64 bits.
+#![tactic(auto)]
+
 ghost use Rattle.std.specs.Prelude.{◌≡◌};
 ghost use Rattle.scp.specs.Answers.{header_numbers};
 ghost use Rattle.scp_values.specs.Values.{footer_numbers, track_numbers, revolution_numbers};

@@ -4,7 +4,6 @@ use mathlib.Core.Path.{sym, ap, ◌∙◌}
 use lib.Seq.{length-take-le}
 use Rattle.boundary.specs.Boundary.{code_of, out_after}
 use Rattle.scp_boundary.proofs.LentPlaces.{closed_values, closed_after, closed_beside}
-use borrow.Author.Rules.{rules}
 use Rattle.flux_coded.proofs.closed_intervals.Goals as goal
 
 pub slice_bounds-closed_intervals-end-2 : goal.slice_bounds-closed_intervals-end-2

@@ -4,7 +4,6 @@ use Rattle.flux.specs.declared.Filled.{Filled}
 use Rattle.flux.specs.Answers.{of_filled}
 use Rattle.scp_boundary.specs.Boundary.{given_of}
 use Rattle.boundary.proofs.CodeAndBuffer.{pass_values, pass_refusal}
-use borrow.Author.Rules.{rules}
 use Rattle.flux_coded.proofs.give_filled.Goals as goal
 
 pub returns-in-Places : goal.returns-in-Places

@@ -3,7 +3,6 @@ use mathlib.Core.Path.{sym, ap, ◌∙◌}
 use lib.Seq.{length-take-le}
 use Rattle.boundary.specs.Boundary.{code_of, out_after}
 use Rattle.scp_boundary.proofs.LentPlaces.{reading_values, reading_after}
-use borrow.Author.Rules.{rules}
 use Rattle.flux_coded.proofs.intervals.Goals as goal
 
 pub slice_bounds-intervals-end-2 : goal.slice_bounds-intervals-end-2

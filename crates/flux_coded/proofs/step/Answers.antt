@@ -3,7 +3,6 @@ use mathlib.Core.Path.{sym, ap, ◌∙◌}
 use Rattle.flux.specs.Answers.{of_step}
 use Rattle.scp_boundary.specs.Boundary.{step_numbers}
 use Rattle.boundary.proofs.CodeAndBuffer.{pass_values, pass_refusal}
-use borrow.Author.Rules.{rules}
 use Rattle.flux_coded.proofs.step.Goals as goal
 
 pub returns-in-Interval : goal.returns-in-Interval

@@ -3,7 +3,6 @@ use mathlib.Core.Path.{sym, ap, ◌∙◌}
 use Rattle.flux_summary.specs.Summaries.{of_summarized}
 use Rattle.scp_boundary.specs.Boundary.{given_of}
 use Rattle.boundary.proofs.CodeAndBuffer.{pass_values, pass_refusal}
-use borrow.Author.Rules.{rules}
 use Rattle.flux_coded.proofs.summary.Goals as goal
 
 pub returns-in-Given : goal.returns-in-Given

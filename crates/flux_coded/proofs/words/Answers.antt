@@ -4,7 +4,6 @@ use lib.Seq.{length-take-le}
 use Rattle.flux.specs.Answers.{of_written}
 use Rattle.boundary.specs.Boundary.{code_of, out_after}
 use Rattle.scp_boundary.proofs.LentPlaces.{writing_values, writing_after}
-use borrow.Author.Rules.{rules}
 use Rattle.flux_coded.proofs.words.Goals as goal
 
 pub slice_bounds-words-end-2 : goal.slice_bounds-words-end-2

@@ -1,4 +1,3 @@
-use borrow.Author.Rules.{rules}
 use Rattle.scp_fields.proofs.has_footer.Goals as goal
 
 pub returns : goal.returns

@@ -1,4 +1,3 @@
-use borrow.Author.Rules.{rules}
 use Rattle.scp_fields.proofs.is_read_write.Goals as goal
 
 pub returns : goal.returns

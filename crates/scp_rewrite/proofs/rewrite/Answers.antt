@@ -1,5 +1,4 @@
 -- What refuses is answered and nothing is stored; else the entry is read again and the revolution patched.
-use Rattle.std.proofs.Common.{rules}
 use Rattle.scp_rewrite.proofs.Outcome.{answers_refused, answers_done, leaves_all, patchable, leaves_rewritten}
 use Rattle.scp_rewrite.proofs.rewrite.Goals as goal
 

@@ -4,7 +4,6 @@ use lib.ListN.{length, replicate}
 use mathlib.Core.List.{[], ◌∷◌}
 use Prim.Native.Nat.{ℕ}
 use Rattle.copies.specs.Copying.{copied_at}
-use borrow.Author.Rules.{rules}
 use Rattle.scp_rows.proofs.bytes_row.Goals as goal
 
 pub returns : goal.returns

@@ -3,7 +3,6 @@ use mathlib.Core.Path.{sym, ap, ◌∙◌}
 use Rattle.scp.specs.Answers.{bytes, of_revolution}
 use Rattle.scp.proofs.Answering.{flux_found, flux_refused}
 use Rattle.scp_rows.specs.Rows.{row_of}
-use borrow.Author.Rules.{rules}
 use Rattle.scp_rows.proofs.flux_row.Goals as goal
 
 pub returns-in-Found : goal.returns-in-Found

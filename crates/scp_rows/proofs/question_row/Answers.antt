@@ -5,7 +5,6 @@ use borrow.Author.Tests.{ne_eqb}
 use Rattle.scp_book.specs.Book.{Question, asked}
 use Rattle.scp_book.specs.Book as book
 use Rattle.scp_rows.specs.Rows.{question_of, row_of}
-use borrow.Author.Rules.{rules}
 use Rattle.scp_rows.proofs.question_row.Goals as goal
 
 pub returns-then-kind-eq-HEADER : goal.returns-then-kind-eq-HEADER

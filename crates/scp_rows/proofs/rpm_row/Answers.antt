@@ -2,7 +2,6 @@
 use mathlib.Core.Path.{sym, ap, subst, ◌∙◌}
 use Rattle.scp.specs.Answers.{of_speed_only}
 use Rattle.scp_rows.specs.Rows.{row_of, Real}
-use borrow.Author.Rules.{rules}
 use Rattle.scp_rows.proofs.rpm_row.Goals as goal
 
 pub float_to_bits-x : goal.float_to_bits-x

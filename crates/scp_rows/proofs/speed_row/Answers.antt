@@ -3,7 +3,6 @@ use mathlib.Core.Path.{sym, ap, subst, ◌∙◌}
 use Rattle.scp.specs.Answers.{of_speed}
 use Rattle.scp_rows.specs.Rows.{row_of, Real}
 use Rattle.scp_rows.proofs.NoNan.{speed_real}
-use borrow.Author.Rules.{rules}
 use Rattle.scp_rows.proofs.speed_row.Goals as goal
 
 pub rpm_row-requires : goal.rpm_row-requires

@@ -4,7 +4,6 @@ use lib.ListN.{replicate}
 use Rattle.copies.specs.Copying.{copied_at}
 use Rattle.scp.specs.Answers.{of_track}
 use Rattle.scp_rows.specs.Rows.{row_of}
-use borrow.Author.Rules.{rules}
 use Rattle.scp_rows.proofs.track_row.Goals as goal
 
 pub returns-in-Found : goal.returns-in-Found

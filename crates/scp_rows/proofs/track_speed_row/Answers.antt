@@ -3,7 +3,6 @@ use mathlib.Core.Path.{sym, ap, subst, ◌∙◌}
 use Rattle.scp.specs.Answers.{of_track_speed}
 use Rattle.scp_rows.specs.Rows.{row_of, Real}
 use Rattle.scp_rows.proofs.NoNan.{track_speed_real}
-use borrow.Author.Rules.{rules}
 use Rattle.scp_rows.proofs.track_speed_row.Goals as goal
 
 pub float_to_bits-s : goal.float_to_bits-s

@@ -2,7 +2,6 @@
 use mathlib.Core.Path.{sym, ap, ◌∙◌}
 use Rattle.scp.specs.Answers.{of_validated}
 use Rattle.scp_rows.specs.Rows.{row_of}
-use borrow.Author.Rules.{rules}
 use Rattle.scp_rows.proofs.validate_row.Goals as goal
 
 pub returns-in-Valid : goal.returns-in-Valid
