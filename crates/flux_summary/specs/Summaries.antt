@@ -11,11 +11,11 @@ use Rattle.flux_summary.specs.declared.Summarized.TheVariants as summarized
 abbrev pub summary_of : List ℕ → List ℕ
 summary_of ws = length (intervals 0 ws) ∷ open_time 0 ws ∷ total_ticks ws ∷ []
 
--- A-17: the three numbers as they are returned.
+-- A-21: the three numbers as they are returned.
 abbrev pub summary_numbers : Summary → List ℕ
 summary_numbers m = m.intervals ∷ m.«open» ∷ m.total ∷ []
 
--- A-17: number and values of each case: how many intervals, the open time, the ticks of all words.
+-- A-21: number and values of each case: how many intervals, the open time, the ticks of all words.
 abbrev pub of_summarized : Summarized → Answer
 of_summarized (summarized.Given m) = gives (summary_numbers m)
 of_summarized (summarized.Refused r) = refused r.number r.position
