@@ -182,7 +182,8 @@ mod tests {
     use std::path::{Path, PathBuf};
     use std::time::{Duration, SystemTime};
 
-    const LIST: &str = "# NAME: the crates it depends on\nflux:\nscp: flux\nscp_c staticlib: flux scp # both\nscp_all staticlib: scp\ndsk_c: dsk";
+    const LIST: &str =
+        "# NAME: the crates it depends on\nflux:\nscp: flux\nscp_c staticlib: flux scp # both\nscp_all staticlib: scp\ndsk_c: dsk";
 
     #[test]
     fn an_archive_is_made_of_the_crates_below_and_its_own() {
