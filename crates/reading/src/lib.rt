@@ -7,7 +7,8 @@ ghost use Rattle.std.specs.Io.KnownBytes.{Consumes};
 use std::io::Read;
 
 // Reads until the buffer is full, the input ends or a read fails, and returns how many bytes it put at the buffer's start: just those that
-// were read. On an empty buffer it reads nothing.
+// were read. On an empty buffer it reads nothing. Behind those bytes the buffer is left open, and how many they are beyond the bound, as std's `read`
+// says neither.
 pub fn read_full<R: Read>(from: &mut R, buf: &mut [u8]) -> usize
     ensures bound { result ≤ length buf.new }
     ensures bytes { Consumes (R.remaining from.old) (R.remaining from.new) (take result buf.new) }
