@@ -1,11 +1,11 @@
-// Copying a lent list into a lent buffer, for each width, or zeros: all of it, or nothing where it does not fit; and a part of lent bytes.
+// Copying a lent list into a lent buffer, or zeros: all of it, or nothing where it does not fit; and a part of lent bytes.
 #![tactic(auto)]
 
 ghost use Rattle.std.specs.Prelude.{◌≡◌, ◌+◌, replicate};
 ghost use Rattle.copies.specs.Copying.{fits_at, copied_at, part, part_start};
 
-// Copies bytes to `at`, and says whether they fit.
-pub fn bytes(out: &mut [u8], at: usize, values: &[u8]) -> bool
+// Copies the values to `at`, and says whether they fit.
+pub fn copy<T: Copy>(out: &mut [T], at: usize, values: &[T]) -> bool
     ensures value { result ≡ fits_at out.old at values.now }
     ensures out_after { out.new ≡ copied_at out.old at values.now }
 {
@@ -16,51 +16,7 @@ pub fn bytes(out: &mut [u8], at: usize, values: &[u8]) -> bool
     if out.len() - size < at {
         return false;
     }
-    let mut j = 0;
-    while j < size {
-        out[at + j] = values[j];
-        j += 1;
-    }
-    true
-}
-
-// Copies numbers of 64 bits to `at`, and says whether they fit.
-pub fn numbers(out: &mut [u64], at: usize, values: &[u64]) -> bool
-    ensures value { result ≡ fits_at out.old at values.now }
-    ensures out_after { out.new ≡ copied_at out.old at values.now }
-{
-    let n = values.len();
-    if out.len() < n {
-        return false;
-    }
-    if out.len() - n < at {
-        return false;
-    }
-    let mut j = 0;
-    while j < n {
-        out[at + j] = values[j];
-        j += 1;
-    }
-    true
-}
-
-// Copies floats to `at`, and says whether they fit.
-pub fn floats(out: &mut [f64], at: usize, values: &[f64]) -> bool
-    ensures value { result ≡ fits_at out.old at values.now }
-    ensures out_after { out.new ≡ copied_at out.old at values.now }
-{
-    let n = values.len();
-    if out.len() < n {
-        return false;
-    }
-    if out.len() - n < at {
-        return false;
-    }
-    let mut j = 0;
-    while j < n {
-        out[at + j] = values[j];
-        j += 1;
-    }
+    out[at..at + size].copy_from_slice(values);
     true
 }
 
@@ -75,11 +31,7 @@ pub fn zeros(out: &mut [u8], at: usize, count: usize) -> bool
     if out.len() - count < at {
         return false;
     }
-    let mut k = 0;
-    while k < count {
-        out[at + k] = 0;
-        k += 1;
-    }
+    out[at..at + count].fill(0);
     true
 }
 

@@ -8,7 +8,7 @@ use lib.ListN.{length, take, drop, length-drop}
 use lib.Seq.{length-take-le}
 use lib.Dec.{leb}
 use borrow.Author.Tests.{eq-eqb, eqb-true, eqb-false, lt-leb, le-leb, leb-false}
-use Rattle.refusals.specs.declared.Refusal.{Refusal}
+use Rattle.refusals.specs.Refusals.{Fault}
 use Rattle.refusals.specs.Refusals.{none, refusal, passes, refuse_if}
 use Rattle.refusals.proofs.Finding.{not_refused, is_refusal}
 use Rattle.refusals.proofs.Answers.{unless_refused}
@@ -54,11 +54,11 @@ module _ (b : List ℕ) (t s : ℕ) where
   found_within h = let w = info_within h.present in let e = h.same in omega arith
 
   -- one that is refused is refused by the question
-  pub record NotFound (f : Refusal) : Type 0 where
+  pub record NotFound (f : Fault) : Type 0 where
     pub refuses : f ≡ block_question b t s
     pub number : f.number ≡ 0 → ⊥
 
-  pub not_found : {f : Refusal} → block-place.Refused f ≡ found_block b t s → NotFound f
+  pub not_found : {f : Fault} → block-place.Refused f ≡ found_block b t s → NotFound f
   unfolding found_block
   not_found {f} h = go (passes (block_question b t s)) refl h
     where
@@ -67,20 +67,20 @@ module _ (b : List ℕ) (t s : ℕ) where
       go true q h = let z : ◌≡◌ {A = ℕ} 0 1 = cc in absurd (omega arith)
       go false q h =
           let e : f ≡ block_question b t s = cc in
-          record { refuses = e; number = λ z. eqb-false (block_question b t s).number 0 q (ap (λ (x : Refusal). x.number) (sym e) ∙ z) }
+          record { refuses = e; number = λ z. eqb-false (block_question b t s).number 0 q (ap (λ (x : Fault). x.number) (sym e) ∙ z) }
 
 -- ---- a sector
 
 module _ (b : List ℕ) (t s k : ℕ) where
   -- where the block is not found
-  pub no_block : {f : Refusal} → NotFound b t s f → sector-answer.Refused f ≡ sector_answer b t s k
+  pub no_block : {f : Fault} → NotFound b t s f → sector-answer.Refused f ≡ sector_answer b t s k
   unfolding sector_answer
   no_block {f} h =
-      let n : (block_question b t s).number ≡ 0 → ⊥ = λ z. h.number (ap (λ (x : Refusal). x.number) h.refuses ∙ z) in
+      let n : (block_question b t s).number ≡ 0 → ⊥ = λ z. h.number (ap (λ (x : Fault). x.number) h.refuses ∙ z) in
       unless_refused (sector_question b t s k) _ sector-answer.Refused (h.refuses ∙ refused_alike b t s _ n) h.number
 
   -- where the block has no such sector
-  pub no_sector : {f : Refusal} → BlockThere b t s → sectors b (block_of b t s) ≤ k → f ≡ refusal 14 0 → sector-answer.Refused f ≡ sector_answer b t s k
+  pub no_sector : {f : Fault} → BlockThere b t s → sectors b (block_of b t s) ≤ k → f ≡ refusal 14 0 → sector-answer.Refused f ≡ sector_answer b t s k
   unfolding sector_answer
   no_sector {f} h l e =
       let found : refusal 14 0 ≡ refuse_if (leb (sectors b (block_of b t s)) k) (refusal 14 0) none =
@@ -95,12 +95,12 @@ module _ (b : List ℕ) (t s k : ℕ) where
   pub sector_passes : SectorThere → (sector_question b t s k).number ≡ 0
   unfolding refuse_if
   sector_passes h =
-      ap (λ (x : Refusal). x.number) (sym (then_rest b t s _ h.block)) ∙ simp (lt-leb (sectors b (block_of b t s)) k h.below)
+      ap (λ (x : Fault). x.number) (sym (then_rest b t s _ h.block)) ∙ simp (lt-leb (sectors b (block_of b t s)) k h.below)
 
   pub sector_there : (sector_question b t s k).number ≡ 0 → SectorThere
   sector_there z =
       let h = there b t s _ z in
-      let rest = ap (λ (x : Refusal). x.number) (then_rest b t s _ h) ∙ z in
+      let rest = ap (λ (x : Fault). x.number) (then_rest b t s _ h) ∙ z in
       record { block = h; below = leb-false (sectors b (block_of b t s)) k (not_refused (leb (sectors b (block_of b t s)) k) 13 0 none rest).0 }
 
   -- its index is small, and its data start in the image
@@ -184,7 +184,7 @@ data_whole b t s k = data_holds b t s k
 
 -- ---- validating
 
-validated_by : (x : Bool) (f : Refusal) → cond x validated.Valid (validated.Refused f) ≡ validated.Valid → x ≡ true
+validated_by : (x : Bool) (f : Fault) → cond x validated.Valid (validated.Refused f) ≡ validated.Valid → x ≡ true
 validated_by true f h = refl
 validated_by false f h = let z : ◌≡◌ {A = ℕ} 0 1 = cc in absurd (omega arith)
 

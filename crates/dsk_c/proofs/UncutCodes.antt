@@ -4,7 +4,7 @@ use Prim.Native.Nat.{ℕ, ◌<◌}
 use mathlib.Core.List.{List}
 use native.Mathlib.Omega.{arith}
 use Rattle.octets.specs.Numbers.{Octets}
-use Rattle.refusals.specs.declared.Refusal.{Refusal}
+use Rattle.refusals.specs.Refusals.{Fault}
 use Rattle.refusals.specs.Refusals.{none}
 use Rattle.boundary.proofs.ExactCodes.{exact}
 use Rattle.boundary.proofs.SmallCodes.{Small, small_none, small_first, small_at, small_if, small_from}
@@ -50,11 +50,11 @@ module _ (b : List ℕ) (octets : Octets b) where
       (small_from (track_fault b) 0 (tracks b) (λ t a z. small_from (block_fault b t) 0 (sides b) (λ s c y.
       block_small t s (omega arith) (omega arith))))
 
-  asked_small : (t s : ℕ) (rest : Refusal) → Small rest → Small (block_then b t s rest)
+  asked_small : (t s : ℕ) (rest : Fault) → Small rest → Small (block_then b t s rest)
   unfolding block_then
   asked_small t s rest h = small_first (dsk_fault b) _ image_small (small_if _ _ 13 (omega arith) h)
 
-whole : (f : Refusal) → Small f → Whole f
+whole : (f : Fault) → Small f → Whole f
 whole f h = exact f.number f.position h.0 h.1
 
 pub uncut : Uncut

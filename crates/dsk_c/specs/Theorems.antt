@@ -1,7 +1,7 @@
 -- What the definitions of the boundary are proved to mean for a DSK image. The proofs stand in proofs/.
 use Rattle.std.specs.Prelude.{ℕ, ◌+◌, ◌*◌, ◌≡◌, List}
 use Rattle.octets.specs.Numbers.{Octets}
-use Rattle.refusals.specs.declared.Refusal.{Refusal}
+use Rattle.refusals.specs.Refusals.{Fault}
 use Rattle.boundary.specs.Boundary.{packed}
 use Rattle.dsk_check.specs.Faults.{dsk_fault}
 use Rattle.dsk.specs.Questions.{block_question, sector_question}
@@ -9,7 +9,7 @@ use Rattle.dsk_layout.specs.declared.Layout.{Layout}
 use Rattle.dsk_write.specs.Writing.{write_fault}
 
 -- C-2: the code of a refusal is its number + 256 x its position.
-abbrev pub Whole : Refusal → Type 0
+abbrev pub Whole : Fault → Type 0
 Whole f = packed f.number f.position ≡ f.number + 256 * f.position
 
 -- C-2: no refusal of a call on a DSK image is cut: of validating and the geometry, of a block, of a sector. Each answers by its question, and

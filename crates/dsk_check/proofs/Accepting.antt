@@ -7,7 +7,7 @@ use native.Mathlib.Omega.{arith}
 use lib.ListN.{length, drop}
 use lib.Dec.{eqb, ltb}
 use borrow.Author.Tests.{ltb-false, le-ltb, eqb-true, eq-eqb, not-false}
-use Rattle.refusals.specs.declared.Refusal.{Refusal}
+use Rattle.refusals.specs.Refusals.{Fault}
 use Rattle.refusals.specs.Refusals.{none}
 use Rattle.refusals.proofs.Finding.{neither, from_none, none_from, not_refused, pass, both_clear, clear_both, from_clear, clear_from, Clear, clear_first, clear_from_all}
 use Rattle.dsk_fields.specs.Fields.{block_text, says_at, info_size, tracks, sides, track_size, block_index, block_of, track_number, size_code, sectors, data_size}
@@ -90,7 +90,7 @@ module _ (b : List ℕ) where
   clear_dsk = clear_first (head_fault b) (blocks_fault b) (clear_from_all (track_fault b) 0 (tracks b))
 
 pub validates_exactly : ValidatesExactly
-validates_exactly b = (λ e. obeys b (ap (λ (f : Refusal). f.number) e), λ v. clear_dsk b (accepts b v))
+validates_exactly b = (λ e. obeys b (ap (λ (f : Fault). f.number) e), λ v. clear_dsk b (accepts b v))
 
 -- ---- where a block and its sector data lie in an image that is accepted
 

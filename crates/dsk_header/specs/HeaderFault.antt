@@ -1,6 +1,6 @@
 -- What refuses a DSK image before its track blocks are looked at: 30, 32, 31, 32 in this order (DK-10, R-30 to R-32).
 use Rattle.std.specs.Prelude.{ℕ, List, Bool, not, ◌||◌, length, eqb, ltb}
-use Rattle.refusals.specs.declared.Refusal.{Refusal}
+use Rattle.refusals.specs.Refusals.{Fault}
 use Rattle.refusals.specs.Refusals.{none, refusal, refuse_if}
 use Rattle.dsk_fields.specs.Fields.{sign_text, says_at, info_size, tracks, sides, track_size, image_size}
 
@@ -21,7 +21,7 @@ abbrev pub bad_length : List ℕ → Bool
 bad_length b = ltb (length b) (image_size b)
 
 -- DK-10: 30, 32 below 256 bytes, 31, 32 for the whole.
-unfoldable pub head_fault : List ℕ → Refusal
+unfoldable pub head_fault : List ℕ → Fault
 head_fault b =
     refuse_if (bad_sign b) (refusal 30 0)
     (refuse_if (too_short b) (refusal 32 0)

@@ -7,7 +7,7 @@ use native.Mathlib.Nat.{mul-le-mul}
 use native.Mathlib.Omega.{arith}
 use lib.Dec.{eqb, ltb}
 use borrow.Author.Tests.{ltb-false, le-ltb, eqb-true, eq-eqb, not-false}
-use Rattle.refusals.specs.declared.Refusal.{Refusal}
+use Rattle.refusals.specs.Refusals.{Fault}
 use Rattle.refusals.specs.Refusals.{refusal}
 use Rattle.refusals.proofs.Finding.{either, neither}
 use Rattle.dsk_layout.specs.declared.Layout.{Layout}
@@ -146,7 +146,7 @@ module _ (l : Layout) (m n : ℕ) where
       go true h = let z : ◌≡◌ {A = ℕ} 0 1 = cc in absurd (omega arith)
       go false h = (cc, refl)
 
-  pub refused_is : {f : Refusal} → layout-answer.Refused f ≡ layout_answer l m n
+  pub refused_is : {f : Fault} → layout-answer.Refused f ≡ layout_answer l m n
       → (f ≡ refusal 41 0) × (bad_layout l m n ≡ true)
   unfolding layout_answer
   refused_is {f} h = go (bad_layout l m n) h

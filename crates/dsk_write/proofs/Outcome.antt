@@ -7,7 +7,7 @@ use native.Mathlib.Omega.{arith}
 use lib.ListN.{length, drop}
 use lib.Seq.{sets}
 use borrow.Author.Tests.{lt-ltb, le-ltb}
-use Rattle.refusals.specs.declared.Refusal.{Refusal}
+use Rattle.refusals.specs.Refusals.{Fault}
 use Rattle.refusals.specs.Refusals.{none, refusal}
 use Rattle.refusals.proofs.Chain.{refuse_here, refuse_next}
 use Rattle.refusals.proofs.Finding.{is_refusal}
@@ -23,7 +23,7 @@ use Rattle.dsk_write.proofs.Stores.{then_put, at_start}
 use Rattle.dsk_write.proofs.Sizes.{header_length, image_length_lem}
 
 module _ (c : List ℕ) (l : Layout) (d : List ℕ) (places : ℕ) where
-  pub gives_41 : {f : Refusal} → f ≡ refusal 41 0 → bad_layout l (length c) (length d) ≡ true → written.Refused f ≡ write_answer c l d places
+  pub gives_41 : {f : Fault} → f ≡ refusal 41 0 → bad_layout l (length c) (length d) ≡ true → written.Refused f ≡ write_answer c l d places
   unfolding write_answer write_fault
   gives_41 e bad = unless_refused (write_fault c l d places) _ written.Refused (refuse_here _ _ _ bad e) (is_refusal 40 e)
 
@@ -31,7 +31,7 @@ module _ (c : List ℕ) (l : Layout) (d : List ℕ) (places : ℕ) where
     size : length (image_bytes c l d) ≡ image_length l
     size = image_length_lem c l d (writable l (length c) (length d) good)
 
-    pub gives_15 : {f : Refusal} → f ≡ refusal 15 0 → places < image_length l → written.Refused f ≡ write_answer c l d places
+    pub gives_15 : {f : Fault} → f ≡ refusal 15 0 → places < image_length l → written.Refused f ≡ write_answer c l d places
     unfolding write_answer write_fault
     gives_15 e h =
         let n = size in
@@ -50,7 +50,7 @@ module _ (c : List ℕ) (l : Layout) (d : List ℕ) (places : ℕ) where
     pub gives_length : {n : ℕ} → n ≡ image_length l → image_length l ≤ places → written.Length n ≡ write_answer c l d places
     unfolding write_answer
     gives_length e h =
-        unless_found (write_fault c l d places) _ written.Refused (ap (λ (f : Refusal). f.number) (sym (passes_all h)))
+        unless_found (write_fault c l d places) _ written.Refused (ap (λ (f : Fault). f.number) (sym (passes_all h)))
         (ap written.Length (e ∙ sym size))
 
 -- the header and then the blocks are the image, from the start on

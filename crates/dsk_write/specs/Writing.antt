@@ -1,6 +1,6 @@
 -- What writing a DSK image answers, and what it leaves in the lent buffer (DK-26, DK-27).
 use Rattle.std.specs.Prelude.{ℕ, List, ◌++◌, length, drop, ltb}
-use Rattle.refusals.specs.declared.Refusal.{Refusal}
+use Rattle.refusals.specs.Refusals.{Fault}
 use Rattle.refusals.specs.Refusals.{none, refusal, refuse_if, unless}
 use Rattle.dsk_layout.specs.declared.Layout.{Layout}
 use Rattle.dsk_layout.specs.Layouts.{bad_layout}
@@ -9,7 +9,7 @@ use Rattle.dsk_write.specs.declared.Written.{Written}
 use Rattle.dsk_write.specs.declared.Written.TheVariants as written
 
 -- DK-26: what refuses to write the creator c, the layout l and the data d into so many places: 41, then 15.
-unfoldable pub write_fault : List ℕ → Layout → List ℕ → ℕ → Refusal
+unfoldable pub write_fault : List ℕ → Layout → List ℕ → ℕ → Fault
 write_fault c l d places =
     refuse_if (bad_layout l (length c) (length d)) (refusal 41 0)
     (refuse_if (ltb places (length (image_bytes c l d))) (refusal 15 0)

@@ -7,7 +7,7 @@ use mathlib.Core.Bool.{Bool, true, false, cond}
 use lib.ListN.{length}
 use lib.Dec.{ltb}
 use borrow.Author.Tests.{ltb-false, lt-ltb, le-ltb}
-use Rattle.refusals.specs.declared.Refusal.{Refusal}
+use Rattle.refusals.specs.Refusals.{Fault}
 use Rattle.refusals.specs.Refusals.{refusal}
 use Rattle.flux.specs.Coding.{words_of, bytes_of, bad_flux_size}
 use Rattle.flux.specs.Reading.{open_time}
@@ -15,8 +15,8 @@ use Rattle.flux.specs.Writing.{first_inexpressible, words_for}
 use Rattle.flux.specs.Answers.{places_refused, time_refused, words_refused, refused, gives, Filling, refuses, fills, answer_of, buffer_after, in_places, list_read, writing}
 
 -- a refusal by its number and position
-pub refused_by : {r : Refusal} {n p : ℕ} → r ≡ refusal n p → refused r.number r.position ≡ refused n p
-refused_by e = ap (λ (x : Refusal). refused x.number x.position) e
+pub refused_by : {r : Fault} {n p : ℕ} → r ≡ refusal n p → refused r.number r.position ≡ refused n p
+refused_by e = ap (λ (x : Fault). refused x.number x.position) e
 
 -- a refusal leaves the buffer
 pub refused_keeps : (k i : ℕ) (old : List ℕ) (f : Filling) → refused k i ≡ answer_of f → old ≡ buffer_after old f

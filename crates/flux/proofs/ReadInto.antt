@@ -6,7 +6,7 @@ use native.Mathlib.Omega.{arith}
 use mathlib.Core.List.{List, [], ◌∷◌, ◌++◌}
 use mathlib.Core.Bool.{Bool, true, false, cond}
 use lib.ListN.{length, drop}
-use Rattle.refusals.specs.declared.Refusal.{Refusal}
+use Rattle.refusals.specs.Refusals.{Fault}
 use Rattle.refusals.specs.Refusals.{refusal}
 use Rattle.flux.specs.declared.Filled.{Filled}
 use Rattle.flux.specs.declared.Filled.TheVariants as filled
@@ -28,17 +28,17 @@ module _ (s : List ℕ) (places : ℕ) (m : Bool) (times closings : List ℕ) wh
       (of_filled r ≡ answer_of (reading s places))
       × ((ts ≡ buffer_after times (reading s places)) × (cs ≡ cond m (buffer_after closings (closing_reading s places)) closings))
 
-  refused_into : (k : ℕ) {r : Refusal} → reading s places ≡ refuses k 0 → closing_reading s places ≡ refuses k 0 → r ≡ refusal k 0
+  refused_into : (k : ℕ) {r : Fault} → reading s places ≡ refuses k 0 → closing_reading s places ≡ refuses k 0 → r ≡ refusal k 0
       → ReadInto (filled.Refused r) times closings
   refused_into k first second said =
       (refused_by said ∙ sym (ap answer_of first), (sym (ap (buffer_after times) first), kept m closings k 0 second))
 
-  pub bad_into : {r : Refusal} → bad_flux_size (length s) ≡ true → r ≡ refusal words_refused 0 → ReadInto (filled.Refused r) times closings
+  pub bad_into : {r : Fault} → bad_flux_size (length s) ≡ true → r ≡ refusal words_refused 0 → ReadInto (filled.Refused r) times closings
   bad_into bad =
       refused_into words_refused (list_bad s places (intervals 0 (words_of s)) bad) (list_bad s places (closing_numbers 0 (words_of s)) bad)
 
   module _ (good : bad_flux_size (length s) ≡ false) where
-    pub short_into : {r : Refusal} → places < length (intervals 0 (words_of s)) → r ≡ refusal places_refused 0
+    pub short_into : {r : Fault} → places < length (intervals 0 (words_of s)) → r ≡ refusal places_refused 0
         → ReadInto (filled.Refused r) times closings
     short_into short =
         let also : places < length (closing_numbers 0 (words_of s)) = omega (arith, as_many (words_of s)) in

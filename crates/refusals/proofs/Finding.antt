@@ -8,7 +8,7 @@ use native.Mathlib.Decide.{ℕ_discrete}
 use native.Mathlib.Omega.{arith}
 use lib.Dec.{eqb}
 use borrow.Author.Tests.{eqb-true, eqb-false, eq-eqb}
-use Rattle.refusals.specs.declared.Refusal.{Refusal}
+use Rattle.refusals.specs.Refusals.{Fault}
 use Rattle.refusals.specs.Refusals.{none, refusal, passes, refuse_if, first_of}
 use Rattle.refusals.specs.Search.{any_from, first_from}
 
@@ -75,30 +75,30 @@ same_from p q i (suc n) h = cc (each_first i n h, same_from p q (i + 1) n (each_
 -- ---- refusals
 
 -- a refusal with a number is a refusal
-pub is_refusal : {f : Refusal} (n : ℕ) → f ≡ refusal (suc n) 0 → f.number ≡ 0 → ⊥
-is_refusal n e z = let q : suc n ≡ 0 = ap (λ (x : Refusal). x.number) (sym e) ∙ z in omega arith
+pub is_refusal : {f : Fault} (n : ℕ) → f ≡ refusal (suc n) 0 → f.number ≡ 0 → ⊥
+is_refusal n e z = let q : suc n ≡ 0 = ap (λ (x : Fault). x.number) (sym e) ∙ z in omega arith
 
-pub not_refused : (t : Bool) (n p : ℕ) (rest : Refusal) → (refuse_if t (refusal (suc n) p) rest).number ≡ 0
+pub not_refused : (t : Bool) (n p : ℕ) (rest : Fault) → (refuse_if t (refusal (suc n) p) rest).number ≡ 0
     → (t ≡ false) × (rest.number ≡ 0)
 unfolding refuse_if
 not_refused true n p rest e = absurd (let z : suc n ≡ 0 = e in omega arith)
 not_refused false n p rest e = (refl, e)
 
-pub pass : (t : Bool) (f rest : Refusal) → t ≡ false → rest.number ≡ 0 → (refuse_if t f rest).number ≡ 0
+pub pass : (t : Bool) (f rest : Fault) → t ≡ false → rest.number ≡ 0 → (refuse_if t f rest).number ≡ 0
 unfolding refuse_if
 pass t f rest e z = rw e z
 
 -- a test that excuses from what comes after
-pub not_excused : (t : Bool) (rest : Refusal) → (refuse_if t none rest).number ≡ 0 → t ≡ false → rest.number ≡ 0
+pub not_excused : (t : Bool) (rest : Fault) → (refuse_if t none rest).number ≡ 0 → t ≡ false → rest.number ≡ 0
 unfolding refuse_if
 not_excused t rest z e = rw e at z
 
-pub excuse : (t : Bool) (rest : Refusal) → (t ≡ false → rest.number ≡ 0) → (refuse_if t none rest).number ≡ 0
+pub excuse : (t : Bool) (rest : Fault) → (t ≡ false → rest.number ≡ 0) → (refuse_if t none rest).number ≡ 0
 unfolding refuse_if
 excuse true rest h = refl
 excuse false rest h = h refl
 
-pub both_clear : (f rest : Refusal) → (first_of f rest).number ≡ 0 → (f.number ≡ 0) × (rest.number ≡ 0)
+pub both_clear : (f rest : Fault) → (first_of f rest).number ≡ 0 → (f.number ≡ 0) × (rest.number ≡ 0)
 unfolding first_of refuse_if
 both_clear f rest = by (eqb f.number 0) refl
   where
@@ -106,49 +106,49 @@ both_clear f rest = by (eqb f.number 0) refl
     by true q e = (eqb-true f.number 0 q, e)
     by false q e = absurd (eqb-false f.number 0 q e)
 
-pub clear_both : (f rest : Refusal) → f.number ≡ 0 → rest.number ≡ 0 → (first_of f rest).number ≡ 0
+pub clear_both : (f rest : Fault) → f.number ≡ 0 → rest.number ≡ 0 → (first_of f rest).number ≡ 0
 unfolding first_of refuse_if
 clear_both f rest e z = rw (eq-eqb f.number 0 e) z
 
 -- ---- what refuses before the end of a chain refuses whatever its end is
 
-abbrev pub Alike : Refusal → Refusal → Type 0
+abbrev pub Alike : Fault → Fault → Type 0
 Alike x y = (x.number ≡ 0 → ⊥) → x ≡ y
 
-pub alike_end : (y : Refusal) → Alike none y
+pub alike_end : (y : Fault) → Alike none y
 alike_end y = λ n. absurd (n refl)
 
-pub alike_refuse : (t : Bool) (f x y : Refusal) → Alike x y → Alike (refuse_if t f x) (refuse_if t f y)
+pub alike_refuse : (t : Bool) (f x y : Fault) → Alike x y → Alike (refuse_if t f x) (refuse_if t f y)
 unfolding refuse_if
 alike_refuse true f x y h = λ n. refl
 alike_refuse false f x y h = h
 
-pub alike_first : (f x y : Refusal) → Alike x y → Alike (first_of f x) (first_of f y)
+pub alike_first : (f x y : Fault) → Alike x y → Alike (first_of f x) (first_of f y)
 unfolding first_of
 alike_first f x y h = alike_refuse (not (eqb f.number 0)) f x y h
 
 -- ---- no index refuses
 
-pub from_clear : (f : ℕ → Refusal) (i n : ℕ) → (first_from f i n).number ≡ 0 → Each (λ j. (f j).number ≡ 0) i n
+pub from_clear : (f : ℕ → Fault) (i n : ℕ) → (first_from f i n).number ≡ 0 → Each (λ j. (f j).number ≡ 0) i n
 unfolding first_from
 from_clear f i zero e = λ j a z. absurd (omega arith)
 from_clear f i (suc n) e =
     let r = both_clear (f i) (first_from f (i + 1) n) e in
     each_next i n r.0 (from_clear f (i + 1) n r.1)
 
-pub clear_from : (f : ℕ → Refusal) (i n : ℕ) → Each (λ j. (f j).number ≡ 0) i n → (first_from f i n).number ≡ 0
+pub clear_from : (f : ℕ → Fault) (i n : ℕ) → Each (λ j. (f j).number ≡ 0) i n → (first_from f i n).number ≡ 0
 unfolding first_from
 clear_from f i zero h = refl
 clear_from f i (suc n) h =
     clear_both (f i) (first_from f (i + 1) n) (each_first i n h) (clear_from f (i + 1) n (each_rest i n h))
 
-pub first_same : (f g : ℕ → Refusal) (i n : ℕ) → Each (λ j. f j ≡ g j) i n → first_from f i n ≡ first_from g i n
+pub first_same : (f g : ℕ → Fault) (i n : ℕ) → Each (λ j. f j ≡ g j) i n → first_from f i n ≡ first_from g i n
 unfolding first_from
 first_same f g i zero h = refl
 first_same f g i (suc n) h = cc (each_first i n h, first_same f g (i + 1) n (each_rest i n h))
 
 -- no index below n refuses exactly if each obeys
-pub clear_below : (f : ℕ → Refusal) (H : ℕ → Type 0) (n : ℕ) → ((j : ℕ) → ((f j).number ≡ 0) ↔ H j)
+pub clear_below : (f : ℕ → Fault) (H : ℕ → Type 0) (n : ℕ) → ((j : ℕ) → ((f j).number ≡ 0) ↔ H j)
     → ((first_from f 0 n).number ≡ 0) ↔ ((j : ℕ) → j < n → H j)
 clear_below f H n obeys = (
   λ e j h. (obeys j).0 (from_clear f 0 n e j (omega arith) (omega arith)),
@@ -157,15 +157,15 @@ clear_below f H n obeys = (
 
 -- ---- a finding of number 0 is none
 
-abbrev pub Clear : Refusal → Type 0
+abbrev pub Clear : Fault → Type 0
 Clear f = f.number ≡ 0 → f ≡ none
 
-pub clear_refuse : (t : Bool) (n p : ℕ) (rest : Refusal) → Clear rest → Clear (refuse_if t (refusal (suc n) p) rest)
+pub clear_refuse : (t : Bool) (n p : ℕ) (rest : Fault) → Clear rest → Clear (refuse_if t (refusal (suc n) p) rest)
 unfolding refuse_if
 clear_refuse true n p rest h = λ e. absurd (let z : suc n ≡ 0 = e in omega arith)
 clear_refuse false n p rest h = h
 
-pub clear_first : (f rest : Refusal) → Clear rest → Clear (first_of f rest)
+pub clear_first : (f rest : Fault) → Clear rest → Clear (first_of f rest)
 unfolding first_of refuse_if
 clear_first f rest h = by (eqb f.number 0) refl
   where
@@ -173,7 +173,7 @@ clear_first f rest h = by (eqb f.number 0) refl
     by true q = h
     by false q = λ e. absurd (eqb-false f.number 0 q e)
 
-pub clear_from_all : (f : ℕ → Refusal) (i n : ℕ) → Clear (first_from f i n)
+pub clear_from_all : (f : ℕ → Fault) (i n : ℕ) → Clear (first_from f i n)
 unfolding first_from
 clear_from_all f i zero = λ e. refl
 clear_from_all f i (suc n) = clear_first (f i) (first_from f (i + 1) n) (clear_from_all f (i + 1) n)
@@ -181,17 +181,17 @@ clear_from_all f i (suc n) = clear_first (f i) (first_from f (i + 1) n) (clear_f
 -- ---- what is found
 
 -- what holds of each refusal of a chain or a search, and of none, holds of what is found
-module _ (P : Refusal → Type 0) where
-  pub holds_if : (t : Bool) (f rest : Refusal) → P f → P rest → P (refuse_if t f rest)
+module _ (P : Fault → Type 0) where
+  pub holds_if : (t : Bool) (f rest : Fault) → P f → P rest → P (refuse_if t f rest)
   unfolding refuse_if
   holds_if true f rest h k = h
   holds_if false f rest h k = k
 
-  pub holds_first : (f rest : Refusal) → P f → P rest → P (first_of f rest)
+  pub holds_first : (f rest : Fault) → P f → P rest → P (first_of f rest)
   unfolding first_of
   holds_first f rest h k = holds_if (not (passes f)) f rest h k
 
-  pub holds_from : P none → (f : ℕ → Refusal) (i n : ℕ) → Each (λ j. P (f j)) i n → P (first_from f i n)
+  pub holds_from : P none → (f : ℕ → Fault) (i n : ℕ) → Each (λ j. P (f j)) i n → P (first_from f i n)
   unfolding first_from
   holds_from z f i zero h = z
   holds_from z f i (suc n) h = holds_first (f i) (first_from f (i + 1) n) (each_first i n h) (holds_from z f (i + 1) n (each_rest i n h))

@@ -5,7 +5,7 @@ use mathlib.Core.Path.{◌≡◌, refl, sym, ap, ◌∙◌}
 use mathlib.Core.Bool.{Bool, true, false, ◌||◌, or_assoc, or-false}
 use native.Mathlib.Omega.{arith}
 use borrow.Author.Tests.{eq-eqb}
-use Rattle.refusals.specs.declared.Refusal.{Refusal}
+use Rattle.refusals.specs.Refusals.{Fault}
 use Rattle.refusals.specs.Refusals.{none, refuse_if, first_of}
 use Rattle.refusals.specs.Search.{any_from, first_from}
 use Rattle.refusals.proofs.Chain.{first_here}
@@ -83,17 +83,17 @@ module _ (p : ℕ → Bool) (i : ℕ) {n : ℕ} {r : Bool} (inv : any_from p i (
       by false e = e ∙ any_end p (any_next p inv h e) l
 
 -- v is the finding at i
-module _ (f : ℕ → Refusal) {i n : ℕ} {r : Refusal} (inv : first_from f i (n - i) ≡ r) where
+module _ (f : ℕ → Fault) {i n : ℕ} {r : Fault} (inv : first_from f i (n - i) ≡ r) where
   first_step : i < n → first_of (f i) (first_from f (i + 1) (n - (i + 1))) ≡ r
   unfolding first_from
   first_step h = sym (ap (first_from f i) (left_suc i n h)) ∙ inv
 
-  pub found_here : {v : Refusal} → i < n → v ≡ f i → (v.number ≡ 0 → ⊥) → v ≡ r
+  pub found_here : {v : Fault} → i < n → v ≡ f i → (v.number ≡ 0 → ⊥) → v ≡ r
   found_here {v} h e t = first_here (f i) (first_from f (i + 1) (n - (i + 1))) e t ∙ first_step h
 
-  pub found_next : {v : Refusal} → i < n → v ≡ f i → v.number ≡ 0 → first_from f (i + 1) (n - (i + 1)) ≡ r
+  pub found_next : {v : Fault} → i < n → v ≡ f i → v.number ≡ 0 → first_from f (i + 1) (n - (i + 1)) ≡ r
   unfolding refuse_if first_of
-  found_next {v} h e t = sym (simp (eq-eqb (f i).number 0 (ap (λ (x : Refusal). x.number) (sym e) ∙ t))) ∙ first_step h
+  found_next {v} h e t = sym (simp (eq-eqb (f i).number 0 (ap (λ (x : Fault). x.number) (sym e) ∙ t))) ∙ first_step h
 
   pub found_none : n ≤ i → none ≡ r
   unfolding first_from

@@ -1,6 +1,6 @@
 -- Searches over indices, counted upwards (RO-2): the n indices from i on.
 use Rattle.std.specs.Prelude.{ℕ, zero, suc, ◌+◌, List, [], ◌∷◌, Bool, false, ◌||◌}
-use Rattle.refusals.specs.declared.Refusal.{Refusal}
+use Rattle.refusals.specs.Refusals.{Fault}
 use Rattle.refusals.specs.Refusals.{none, first_of}
 
 -- RO-2: some of the indices passes the test.
@@ -9,7 +9,7 @@ any_from p i zero = false
 any_from p i (suc n) = p i || any_from p (i + 1) n
 
 -- RO-2: the first refusal among the indices, or none.
-unfoldable pub first_from : (ℕ → Refusal) → ℕ → ℕ → Refusal
+unfoldable pub first_from : (ℕ → Fault) → ℕ → ℕ → Fault
 first_from f i zero = none
 first_from f i (suc n) = first_of (f i) (first_from f (i + 1) n)
 

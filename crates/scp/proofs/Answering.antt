@@ -9,7 +9,7 @@ use lib.IntN.{ℤ}
 use lib.Ieee.{Float}
 use borrow.Author.Tests.{eq-eqb, ne_eqb}
 use Rattle.flux.specs.Answers.{Filling, refuses}
-use Rattle.refusals.specs.declared.Refusal.{Refusal}
+use Rattle.refusals.specs.Refusals.{Fault}
 use Rattle.refusals.specs.Refusals.{refusal, passes, refuse_if}
 use Rattle.refusals.specs.Refusals as refusals
 use Rattle.scp_fields.specs.declared.Edition.{Edition}
@@ -30,11 +30,11 @@ use Rattle.scp.specs.Answers.{Answer, refused, none, footer, speeds, bytes, unle
 
 -- ---- an answer, unless it is refused
 
-module _ (q : Refusal) (a : Answer) where
-  pub unless_refused : {f : Refusal} → f ≡ q → (f.number ≡ 0 → ⊥) → refused f.number f.position ≡ unless q a
+module _ (q : Fault) (a : Answer) where
+  pub unless_refused : {f : Fault} → f ≡ q → (f.number ≡ 0 → ⊥) → refused f.number f.position ≡ unless q a
   unless_refused {f} e n =
-      ap (λ (x : Refusal). refused x.number x.position) e
-      ∙ sym (simp (ne_eqb q.number 0 (λ z. n (ap (λ (x : Refusal). x.number) e ∙ z))))
+      ap (λ (x : Fault). refused x.number x.position) e
+      ∙ sym (simp (ne_eqb q.number 0 (λ z. n (ap (λ (x : Fault). x.number) e ∙ z))))
 
   pub unless_passes : {x : Answer} → q.number ≡ 0 → x ≡ a → x ≡ unless q a
   unless_passes z e = e ∙ sym (simp (eq-eqb q.number 0 z))
@@ -42,7 +42,7 @@ module _ (q : Refusal) (a : Answer) where
 -- ---- validating
 
 module _ (v : Edition) (b : List ℕ) where
-  pub validate_open : {f : Refusal} → f ≡ open_fault v b → (f.number ≡ 0 → ⊥) → f ≡ validate_fault v b
+  pub validate_open : {f : Fault} → f ≡ open_fault v b → (f.number ≡ 0 → ⊥) → f ≡ validate_fault v b
   unfolding validate_fault
   validate_open e n = first_here (open_fault v b) _ e n
 
@@ -55,7 +55,7 @@ module _ (v : Edition) (b : List ℕ) where
 
   pub validate_passes : (open_fault v b).number ≡ 0 → stored_sum b ≡ wanted_sum b → (validate_fault v b).number ≡ 0
   validate_passes z e =
-      ap (λ (x : Refusal). x.number) (sym (sum_then z)) ∙ unfold refuse_if in simp (eq-eqb (stored_sum b) (wanted_sum b) e)
+      ap (λ (x : Fault). x.number) (sym (sum_then z)) ∙ unfold refuse_if in simp (eq-eqb (stored_sum b) (wanted_sum b) e)
 
 -- a footer whose offsets and times are equal
 pub footer_same : {o o' p p' q q' r r' s s' t t' : ℕ} {x x' y y' : ℤ} (vs : List ℕ)
@@ -79,7 +79,7 @@ speeds_same ex ey = cc
 -- ---- a track and a revolution
 
 -- the number and the values of a track that q finds or refuses
-module _ (b : List ℕ) (t : ℕ) (q : Refusal) where
+module _ (b : List ℕ) (t : ℕ) (q : Fault) where
   track_by : (x : Bool) → of_track (track_on b t (cond x (entry.At (track_entry b t)) (entry.Refused q)))
       ≡ cond x (track_values b t) (refused q.number q.position)
   track_by true = refl
@@ -93,7 +93,7 @@ unfolding found_track track_answer
 track_answer_is v b t = track_told b t (track_question v b t)
 
 -- of a revolution that q finds or refuses, and of its flux
-module _ (b : List ℕ) (t k : ℕ) (q : Refusal) where
+module _ (b : List ℕ) (t k : ℕ) (q : Fault) where
   -- the revolution as q has it
   abbrev told : Bool → RevolutionAnswer
   told x = cond x (revolution-answer.Found (data_of b (track_entry b t) k)) (revolution-answer.Refused q)
@@ -117,7 +117,7 @@ module _ (b : List ℕ) (t k : ℕ) (q : Refusal) where
   found_by true d e = cc
   found_by false d e = let z : ◌≡◌ {A = ℕ} 0 1 = cc in absurd (omega arith)
 
-  refused_by : (x : Bool) (r : Refusal) → of_revolution (revolution-answer.Refused r) ≡ answered (revolution_values b t k) x
+  refused_by : (x : Bool) (r : Fault) → of_revolution (revolution-answer.Refused r) ≡ answered (revolution_values b t k) x
       → refused r.number r.position ≡ flux_by x
   refused_by true r e = let z : ◌≡◌ {A = ℕ} 0 1 = cc in absurd (omega arith)
   refused_by false r e = e
@@ -127,7 +127,7 @@ module _ (b : List ℕ) (t k : ℕ) (q : Refusal) where
       → bytes d.offset.0 (flux_of b d) ≡ flux_by (passes q)
   flux_told = found_by (passes q)
 
-  pub flux_untold : (r : Refusal) → of_revolution (revolution-answer.Refused r) ≡ unless q (revolution_values b t k)
+  pub flux_untold : (r : Fault) → of_revolution (revolution-answer.Refused r) ≡ unless q (revolution_values b t k)
       → refused r.number r.position ≡ flux_by (passes q)
   flux_untold = refused_by (passes q)
 
@@ -141,7 +141,7 @@ module _ (v : Edition) (b : List ℕ) (t k : ℕ) where
   unfolding found_revolution revolution_answer
   flux_found = flux_told b t k (revolution_question v b t k)
 
-  pub flux_refused : (r : Refusal) → of_revolution (revolution-answer.Refused r) ≡ revolution_answer v b t k
+  pub flux_refused : (r : Fault) → of_revolution (revolution-answer.Refused r) ≡ revolution_answer v b t k
       → refused r.number r.position ≡ flux_answer v b t k
   unfolding found_revolution revolution_answer
   flux_refused = flux_untold b t k (revolution_question v b t k)
@@ -152,5 +152,5 @@ module _ (read : List ℕ → ℕ → Filling) (b : List ℕ) (places : ℕ) {r 
   pub read_found : {s : List ℕ} {d : RevolutionData} → s ≡ flux_of b d → revolution-answer.Found d ≡ r → read s places ≡ read_from read b places r
   read_found e found = ap (λ (s : List ℕ). read s places) e ∙ ap (read_from read b places) found
 
-  pub read_refused : {f : Refusal} → revolution-answer.Refused f ≡ r → refuses f.number f.position ≡ read_from read b places r
+  pub read_refused : {f : Fault} → revolution-answer.Refused f ≡ r → refuses f.number f.position ≡ read_from read b places r
   read_refused found = ap (read_from read b places) found

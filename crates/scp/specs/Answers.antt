@@ -1,6 +1,6 @@
 -- What each call on an image answers, by the edition that it names: a definition gives the number and the values of each case (A-2).
 use Rattle.std.specs.Prelude.{ℕ, ◌+◌, min, List, [], ◌∷◌, cond, length, eqb, ℤ, Float}
-use Rattle.refusals.specs.declared.Refusal.{Refusal}
+use Rattle.refusals.specs.Refusals.{Fault}
 use Rattle.flux.specs.Answers.{Filling, refuses, reading, closing_reading}
 use Rattle.octets.specs.Numbers.{byte_at, le64_at}
 use Rattle.refusals.specs.Refusals.{passes}
@@ -45,7 +45,7 @@ pub data Answer : Type 0 where
   bytes : ℕ → List ℕ → Answer
 
 -- T-14: the answer a, unless f refuses.
-abbrev pub unless : Refusal → Answer → Answer
+abbrev pub unless : Fault → Answer → Answer
 unless f a = cond (passes f) a (refused f.number f.position)
 
 -- ---- validating

@@ -1,6 +1,6 @@
 -- Validating: 1 to 12 and 19 (R-12, RO-5).
 use Rattle.std.specs.Prelude.{ℕ, List, Bool, not, cond, eqb}
-use Rattle.refusals.specs.declared.Refusal.{Refusal}
+use Rattle.refusals.specs.Refusals.{Fault}
 use Rattle.refusals.specs.Refusals.{none, refusal, refuse_if, first_of}
 use Rattle.scp_fields.specs.declared.Edition.{Edition}
 use Rattle.scp_fields.specs.Header.{read_write, stored_sum, true_sum}
@@ -15,5 +15,5 @@ abbrev pub bad_sum : List ℕ → Bool
 bad_sum b = not (eqb (stored_sum b) (wanted_sum b))
 
 -- RO-5: validating: 1 to 12 and 19.
-unfoldable pub validate_fault : Edition → List ℕ → Refusal
+unfoldable pub validate_fault : Edition → List ℕ → Fault
 validate_fault v b = first_of (open_fault v b) (refuse_if (bad_sum b) (refusal 12 0) none)

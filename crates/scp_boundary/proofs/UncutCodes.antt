@@ -5,7 +5,7 @@ use mathlib.Core.List.{List, []}
 use mathlib.Core.Bool.{Bool, true, false, cond}
 use native.Mathlib.Omega.{arith}
 use lib.Dec.{eqb}
-use Rattle.refusals.specs.declared.Refusal.{Refusal}
+use Rattle.refusals.specs.Refusals.{Fault}
 use Rattle.refusals.specs.Refusals.{none, passes}
 use Rattle.scp_fields.specs.declared.Edition.{Edition}
 use Rattle.scp_fields.specs.Editions.{slots}
@@ -76,11 +76,11 @@ module _ (v : Edition) (b : List ℕ) where
   unfolding validate_fault
   validate_small = small_first (open_fault v b) _ open_small (small_if _ _ 12 (omega arith) small_none)
 
-  asked_small : (t : ℕ) (rest : Refusal) → Small rest → Small (track_then v b t rest)
+  asked_small : (t : ℕ) (rest : Fault) → Small rest → Small (track_then v b t rest)
   unfolding track_then
   asked_small t rest h = small_first (open_fault v b) _ open_small (small_if _ _ 13 (omega arith) (small_if _ _ 13 (omega arith) h))
 
-  revolution_small : (t k : ℕ) (rest : Refusal) → Small rest → Small (revolution_then v b t k rest)
+  revolution_small : (t k : ℕ) (rest : Fault) → Small rest → Small (revolution_then v b t k rest)
   revolution_small t k rest h = asked_small t _ (small_if _ _ 14 (omega arith) h)
 
   rewrite_small : (t k : ℕ) (ws : List ℕ) → Small (rewrite_fault v b t k ws)
@@ -93,7 +93,7 @@ whole_either : (t : Bool) (a c : Answer) → Whole a → Whole c → Whole (cond
 whole_either true a c h k = h
 whole_either false a c h k = k
 
-pub whole_unless : (f : Refusal) (a : Answer) → Small f → Whole a → Whole (unless f a)
+pub whole_unless : (f : Fault) (a : Answer) → Small f → Whole a → Whole (unless f a)
 whole_unless f a h k = whole_either (passes f) a _ k (exact f.number f.position h.0 h.1)
 
 range_whole : (t : Bool) (s : TrackSpeeds) → Whole (of_speed_range (cond t range.None (range.Speeds s)))

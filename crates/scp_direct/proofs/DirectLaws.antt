@@ -8,7 +8,7 @@ use native.Mathlib.Omega.{arith}
 use lib.ListN.{length}
 use lib.Dec.{eqb, leb}
 use borrow.Author.Tests.{eq-eqb, ne_eqb, eqb-true, eqb-false, le-leb, lt-leb, leb-true, leb-false}
-use Rattle.refusals.specs.declared.Refusal.{Refusal}
+use Rattle.refusals.specs.Refusals.{Fault}
 use Rattle.refusals.specs.Refusals.{none, refusal, passes, refuse_if, first_of}
 use Rattle.refusals.specs.Search.{first_from}
 use Rattle.refusals.proofs.Answers.{unless_refused, unless_found}
@@ -49,7 +49,7 @@ clear_track v b e t = by (eqb e 0)
         (clear_refuse (bad_flux v b e) 10 t none (λ z. refl)))
 
 -- what comes after a finding is none where nothing does
-first_alone : (f : Refusal) → Clear f → first_of f none ≡ f
+first_alone : (f : Fault) → Clear f → first_of f none ≡ f
 unfolding first_of refuse_if
 first_alone f clear = by (passes f) refl
   where
@@ -79,41 +79,41 @@ unfolding track_fault_at
 absent_clear v b t a = excuse (eqb (track_entry b t) 0) _ (λ q. absurd (eqb-false (track_entry b t) 0 q a))
 
 module _ (v : Edition) (b : List ℕ) (t : ℕ) where
-  pub entry_refused : {f : Refusal} → f ≡ direct_track_question v b t → (f.number ≡ 0 → ⊥) → entry.Refused f ≡ direct_entry v b t
+  pub entry_refused : {f : Fault} → f ≡ direct_track_question v b t → (f.number ≡ 0 → ⊥) → entry.Refused f ≡ direct_entry v b t
   unfolding direct_entry
   entry_refused e n = unless_refused (direct_track_question v b t) _ entry.Refused e n
 
-  pub by_header : {f : Refusal} → f ≡ header_fault v b → (f.number ≡ 0 → ⊥) → f ≡ direct_track_question v b t
+  pub by_header : {f : Fault} → f ≡ header_fault v b → (f.number ≡ 0 → ⊥) → f ≡ direct_track_question v b t
   unfolding direct_track_question
   by_header e n = first_here (header_fault v b) _ e n
 
   -- past the header
   module _ (z : (header_fault v b).number ≡ 0) where
-    pub by_slot : {f : Refusal} → slots v ≤ t → f ≡ refusal 13 0 → f ≡ direct_track_question v b t
+    pub by_slot : {f : Fault} → slots v ≤ t → f ≡ refusal 13 0 → f ≡ direct_track_question v b t
     unfolding direct_track_question
     by_slot h e = first_next (header_fault v b) _ refl z (refuse_here (leb (slots v) t) _ _ (le-leb (slots v) t h) e)
 
-    pub by_entry : {f : Refusal} → t < slots v → track_entry b t ≡ 0 → f ≡ refusal 13 0 → f ≡ direct_track_question v b t
+    pub by_entry : {f : Fault} → t < slots v → track_entry b t ≡ 0 → f ≡ refusal 13 0 → f ≡ direct_track_question v b t
     unfolding direct_track_question
     by_entry h a e =
         first_next (header_fault v b) _ refl z
         (refuse_next (leb (slots v) t) _ _ (lt-leb (slots v) t h) (refuse_here (eqb (track_entry b t) 0) _ _ (eq-eqb (track_entry b t) 0 a) e))
 
-    pub by_track : {f : Refusal} → t < slots v → (track_entry b t ≡ 0 → ⊥) → f ≡ tracks_fault_in v b t (t + 1) → f ≡ direct_track_question v b t
+    pub by_track : {f : Fault} → t < slots v → (track_entry b t ≡ 0 → ⊥) → f ≡ tracks_fault_in v b t (t + 1) → f ≡ direct_track_question v b t
     unfolding direct_track_question
     by_track h a e =
         first_next (header_fault v b) _ refl z
         (refuse_next (leb (slots v) t) _ _ (lt-leb (slots v) t h) (refuse_next (eqb (track_entry b t) 0) _ _ (ne_eqb (track_entry b t) 0 a) (e ∙ one_walk v b t h)))
 
   -- what refuses the header and this track refuses the call: 13 is for tracks of which nothing is tested
-  pub asked_first : {f : Refusal} → f ≡ fault_in v b false t (t + 1) → (f.number ≡ 0 → ⊥) → f ≡ direct_track_question v b t
+  pub asked_first : {f : Fault} → f ≡ fault_in v b false t (t + 1) → (f.number ≡ 0 → ⊥) → f ≡ direct_track_question v b t
   asked_first {f} e n = elim (ℕ_discrete (header_fault v b).number 0) [ yes z ↦ behind z | no h ↦ by_header (e ∙ sym (first_here (header_fault v b) _ refl h)) n ]
     where
       walked : (header_fault v b).number ≡ 0 → f ≡ tracks_fault_in v b t (t + 1)
       walked z = e ∙ sym (first_next (header_fault v b) _ refl z (first_next none (tracks_fault_in v b t (t + 1)) refl refl refl))
 
       refuses : (header_fault v b).number ≡ 0 → (tracks_fault_in v b t (t + 1)).number ≡ 0 → ⊥
-      refuses z q = n (ap (λ (x : Refusal). x.number) (walked z) ∙ q)
+      refuses z q = n (ap (λ (x : Fault). x.number) (walked z) ∙ q)
 
       behind : (header_fault v b).number ≡ 0 → f ≡ direct_track_question v b t
       behind z = by (leb (slots v) t) refl
@@ -122,13 +122,13 @@ module _ (v : Edition) (b : List ℕ) (t : ℕ) where
           by true h = absurd (refuses z (no_walk v b t (leb-true (slots v) t h)))
           by false h =
               let slot = leb-false (slots v) t h in
-              by_track z slot (λ a. refuses z (ap (λ (x : Refusal). x.number) (one_walk v b t slot) ∙ absent_clear v b t a)) (walked z)
+              by_track z slot (λ a. refuses z (ap (λ (x : Fault). x.number) (one_walk v b t slot) ∙ absent_clear v b t a)) (walked z)
 
   -- where nothing does, neither does the header, nor the track
-  pub first_clear : {f : Refusal} → f ≡ fault_in v b false t (t + 1) → f.number ≡ 0
+  pub first_clear : {f : Fault} → f ≡ fault_in v b false t (t + 1) → f.number ≡ 0
       → ((header_fault v b).number ≡ 0) × ((tracks_fault_in v b t (t + 1)).number ≡ 0)
   first_clear e z =
-      let both = both_clear (header_fault v b) _ (ap (λ (x : Refusal). x.number) (sym e) ∙ z) in
+      let both = both_clear (header_fault v b) _ (ap (λ (x : Fault). x.number) (sym e) ∙ z) in
       (both.0, (both_clear none (tracks_fault_in v b t (t + 1)) both.1).1)
 
   -- the header is not refused, and the track is there and not refused
@@ -201,7 +201,7 @@ module _ (v : Edition) (b : List ℕ) (t k : ℕ) where
   unfolding direct_found direct_revolution
   direct_flux_found = flux_told b t k (direct_revolution_question v b t k)
 
-  pub direct_flux_refused : (r : Refusal) → of_revolution (revolution-answer.Refused r) ≡ direct_revolution v b t k
+  pub direct_flux_refused : (r : Fault) → of_revolution (revolution-answer.Refused r) ≡ direct_revolution v b t k
       → refused r.number r.position ≡ direct_flux v b t k
   unfolding direct_found direct_revolution
   direct_flux_refused = flux_untold b t k (direct_revolution_question v b t k)

@@ -1,7 +1,7 @@
 -- The direct calls: what refuses them, in its order (DI-1, DI-2), and what they answer (DI-3 to DI-5). They look at the header, one entry of the
 -- table, that track's header and the records of its revolutions.
 use Rattle.std.specs.Prelude.{ℕ, List}
-use Rattle.refusals.specs.declared.Refusal.{Refusal}
+use Rattle.refusals.specs.Refusals.{Fault}
 use Rattle.refusals.specs.Refusals.{first_of}
 use Rattle.refusals.specs.Refusals as refusals
 use Rattle.scp_fields.specs.declared.Edition.{Edition}
@@ -20,11 +20,11 @@ use Rattle.scp.specs.Answers.{Answer, bytes, unless, track_values, revolution_va
 -- ---- what refuses
 
 -- DI-1: a direct call on track t: 1 to 6, then 13, then 9, 10 and 11 of this track.
-unfoldable pub direct_track_question : Edition → List ℕ → ℕ → Refusal
+unfoldable pub direct_track_question : Edition → List ℕ → ℕ → Fault
 direct_track_question v b t = first_of (header_fault v b) (absent_then v b t (track_fault v b t))
 
 -- DI-2: a direct call on revolution k of track t: these, then 14.
-unfoldable pub direct_revolution_question : Edition → List ℕ → ℕ → ℕ → Refusal
+unfoldable pub direct_revolution_question : Edition → List ℕ → ℕ → ℕ → Fault
 direct_revolution_question v b t k = first_of (direct_track_question v b t) (revolution_fault b k)
 
 -- ---- what is found

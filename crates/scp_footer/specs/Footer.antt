@@ -1,6 +1,6 @@
 -- The footer and its strings (L-21 to L-24), and refusals 7, 8 and 19.
 use Rattle.std.specs.Prelude.{ℕ, ◌+◌, List, Bool, not, ◌&&◌, ◌||◌, length, eqb, ltb}
-use Rattle.refusals.specs.declared.Refusal.{Refusal}
+use Rattle.refusals.specs.Refusals.{Fault}
 use Rattle.octets.specs.Numbers.{byte_at, le16_at}
 use Rattle.refusals.specs.Refusals.{none, refusal, refuse_if}
 use Rattle.refusals.specs.Search.{any_from, first_from}
@@ -49,17 +49,17 @@ bad_text b o = not (well_formed (string_bytes b o))
 
 -- R-8, R-19: string j at offset o refuses where it is present: with 8 where it is misplaced or malformed, then with 19 where it is no text;
 -- the position is j.
-unfoldable pub string_fault_at : Edition → List ℕ → ℕ → ℕ → Refusal
+unfoldable pub string_fault_at : Edition → List ℕ → ℕ → ℕ → Fault
 string_fault_at v b o j = refuse_if (eqb o 0) none (refuse_if (bad_string v b o) (refusal 8 j) (refuse_if (bad_text b o) (refusal 19 j) none))
 
 -- R-8, R-19: the same, at the offset that the footer has for string j.
-abbrev pub string_fault : Edition → List ℕ → ℕ → Refusal
+abbrev pub string_fault : Edition → List ℕ → ℕ → Fault
 string_fault v b j = string_fault_at v b (string_entry b j) j
 
 -- R-8, R-19, RO-2: the first faulty string.
-abbrev pub strings_fault : Edition → List ℕ → Refusal
+abbrev pub strings_fault : Edition → List ℕ → Fault
 strings_fault v b = first_from (string_fault v b) 0 string_slots
 
 -- RO-3: 7, then 8 and 19 of each string where there is a footer.
-unfoldable pub footer_fault : Edition → List ℕ → Refusal
+unfoldable pub footer_fault : Edition → List ℕ → Fault
 footer_fault v b = refuse_if (bad_footer v b) (refusal 7 0) (refuse_if (not (has_footer v b)) none (strings_fault v b))

@@ -7,7 +7,7 @@ use native.Mathlib.Omega.{arith}
 use lib.ListN.{length, get_or}
 use lib.Dec.{eqb, leb}
 use borrow.Author.Tests.{eq-eqb, ne_eqb, eqb-false, le-leb, lt-leb, leb-false}
-use Rattle.refusals.specs.declared.Refusal.{Refusal}
+use Rattle.refusals.specs.Refusals.{Fault}
 use Rattle.refusals.specs.Refusals.{refusal, passes, refuse_if}
 use Rattle.refusals.specs.Refusals as refusals
 use Rattle.scp_fields.specs.declared.Edition.{Edition}
@@ -35,7 +35,7 @@ module _ (v : Edition) (b : List ℕ) where
   opened_fault e = ap (λ (x : Opened). x.refusal) e ∙ opened_fault_by (passes (open_fault v b))
 
   pub opened_number : {o : Opened} → o ≡ opened_of v b → o.refusal.number ≡ (open_fault v b).number
-  opened_number e = ap (λ (x : Refusal). x.number) (opened_fault e)
+  opened_number e = ap (λ (x : Fault). x.number) (opened_fault e)
 
   opened_whole : {o : Opened} → o ≡ opened_of v b → (open_fault v b).number ≡ 0 → o ≡ opened_image (open_fault v b) v b
   unfolding opened_of
@@ -63,29 +63,29 @@ module _ (v : Edition) (b : List ℕ) (t : ℕ) where
     pub slot : t < slots v
     pub entry : track_entry b t ≡ 0 → ⊥
 
-  pub then_open : {f : Refusal} (rest : Refusal) → f ≡ open_fault v b → (f.number ≡ 0 → ⊥) → f ≡ track_then v b t rest
+  pub then_open : {f : Fault} (rest : Fault) → f ≡ open_fault v b → (f.number ≡ 0 → ⊥) → f ≡ track_then v b t rest
   unfolding track_then
   then_open rest e n = first_here (open_fault v b) _ e n
 
-  pub opens_then : (rest : Refusal) → (open_fault v b).number ≡ 0
+  pub opens_then : (rest : Fault) → (open_fault v b).number ≡ 0
       → refuse_if (leb (slots v) t) (refusal 13 0) (refuse_if (eqb (track_entry b t) 0) (refusal 13 0) rest) ≡ track_then v b t rest
   unfolding track_then
   opens_then rest z = first_next (open_fault v b) _ refl z refl
 
-  pub then_high : (rest : Refusal) → (open_fault v b).number ≡ 0 → slots v ≤ t → refusal 13 0 ≡ track_then v b t rest
+  pub then_high : (rest : Fault) → (open_fault v b).number ≡ 0 → slots v ≤ t → refusal 13 0 ≡ track_then v b t rest
   then_high rest z h = unfold refuse_if in (sym (simp (le-leb (slots v) t h)) ∙ opens_then rest z)
 
-  pub then_absent : (rest : Refusal) → (open_fault v b).number ≡ 0 → t < slots v → track_entry b t ≡ 0 → refusal 13 0 ≡ track_then v b t rest
+  pub then_absent : (rest : Fault) → (open_fault v b).number ≡ 0 → t < slots v → track_entry b t ≡ 0 → refusal 13 0 ≡ track_then v b t rest
   then_absent rest z h e =
       unfold refuse_if in (sym (simp (lt-leb (slots v) t h, eq-eqb (track_entry b t) 0 e)) ∙ opens_then rest z)
 
-  pub then_rest : (rest : Refusal) → TrackThere → rest ≡ track_then v b t rest
+  pub then_rest : (rest : Fault) → TrackThere → rest ≡ track_then v b t rest
   then_rest rest h =
       unfold refuse_if in
       (sym (simp (lt-leb (slots v) t h.slot, ne_eqb (track_entry b t) 0 h.entry)) ∙ opens_then rest h.opened)
 
   -- a call that is not refused finds the track
-  pub there : (rest : Refusal) → (track_then v b t rest).number ≡ 0 → TrackThere
+  pub there : (rest : Fault) → (track_then v b t rest).number ≡ 0 → TrackThere
   unfolding track_then
   there rest h =
       let first = both_clear (open_fault v b) _ h in
@@ -98,4 +98,4 @@ module _ (v : Edition) (b : List ℕ) (t : ℕ) where
       }
 
   pub track_passes : TrackThere → (track_question v b t).number ≡ 0
-  track_passes h = ap (λ (x : Refusal). x.number) (sym (then_rest refusals.none h))
+  track_passes h = ap (λ (x : Fault). x.number) (sym (then_rest refusals.none h))

@@ -8,7 +8,7 @@ use native.Mathlib.Omega.{arith}
 use lib.ListN.{length}
 use lib.Dec.{eqb, leb, ltb}
 use borrow.Author.Tests.{eq-eqb, ne_eqb, eqb-true, eqb-false, le-leb, lt-leb, leb-false}
-use Rattle.refusals.specs.declared.Refusal.{Refusal}
+use Rattle.refusals.specs.Refusals.{Fault}
 use Rattle.refusals.specs.Refusals.{none, refusal, passes, refuse_if, first_of, unless}
 use Rattle.scp_fields.specs.declared.Edition.{Edition}
 use Rattle.scp_fields.specs.Editions.{slots}
@@ -33,10 +33,10 @@ use Rattle.scp_lookup.proofs.Asking.{TrackThere, then_rest, there, track_passes}
 -- ---- a track
 
 module _ (v : Edition) (b : List ℕ) (t : ℕ) where
-  pub track_refused : {f : Refusal} → f ≡ track_question v b t → (f.number ≡ 0 → ⊥) → entry.Refused f ≡ found_track v b t
+  pub track_refused : {f : Fault} → f ≡ track_question v b t → (f.number ≡ 0 → ⊥) → entry.Refused f ≡ found_track v b t
   unfolding found_track
   track_refused {f} e n =
-      ap entry.Refused e ∙ sym (simp (ne_eqb (track_question v b t).number 0 (λ z. n (ap (λ (x : Refusal). x.number) e ∙ z))))
+      ap entry.Refused e ∙ sym (simp (ne_eqb (track_question v b t).number 0 (λ z. n (ap (λ (x : Fault). x.number) e ∙ z))))
 
   pub track_found : TrackThere v b t → entry.At (track_entry b t) ≡ found_track v b t
   unfolding found_track
@@ -57,11 +57,11 @@ module _ (v : Edition) (b : List ℕ) (t : ℕ) where
       go false q h = let z : ◌≡◌ {A = ℕ} 0 1 = cc in absurd (omega arith)
 
   -- one that is refused is refused by the question
-  pub record NotFound (f : Refusal) : Type 0 where
+  pub record NotFound (f : Fault) : Type 0 where
     pub refuses : f ≡ track_question v b t
     pub number : f.number ≡ 0 → ⊥
 
-  pub not_found : {f : Refusal} → entry.Refused f ≡ found_track v b t → NotFound f
+  pub not_found : {f : Fault} → entry.Refused f ≡ found_track v b t → NotFound f
   unfolding found_track
   not_found {f} h = go (passes (track_question v b t)) refl h
     where
@@ -70,7 +70,7 @@ module _ (v : Edition) (b : List ℕ) (t : ℕ) where
       go true q h = let z : ◌≡◌ {A = ℕ} 0 1 = cc in absurd (omega arith)
       go false q h =
           let e : f ≡ track_question v b t = cc in
-          record { refuses = e; number = λ z. eqb-false (track_question v b t).number 0 q (ap (λ (x : Refusal). x.number) (sym e) ∙ z) }
+          record { refuses = e; number = λ z. eqb-false (track_question v b t).number 0 q (ap (λ (x : Fault). x.number) (sym e) ∙ z) }
 
 -- the numbers of the track of an entry
 pub track_on_is : (b : List ℕ) (t : ℕ) {e c h n : ℕ} → c ≡ cylinder_of t → h ≡ head_of t → n ≡ revolutions b
@@ -78,14 +78,14 @@ pub track_on_is : (b : List ℕ) (t : ℕ) {e c h n : ℕ} → c ≡ cylinder_of
 track_on_is b t ec eh en = cc
 
 -- a track that is refused is refused whatever comes after
-refused_alike : (v : Edition) (b : List ℕ) (t : ℕ) (rest : Refusal) → ((track_question v b t).number ≡ 0 → ⊥) → track_question v b t ≡ track_then v b t rest
+refused_alike : (v : Edition) (b : List ℕ) (t : ℕ) (rest : Fault) → ((track_question v b t).number ≡ 0 → ⊥) → track_question v b t ≡ track_then v b t rest
 unfolding track_then
 refused_alike v b t rest =
     alike_first (open_fault v b) _ _
     (alike_refuse (leb (slots v) t) (refusal 13 0) _ _ (alike_refuse (eqb (track_entry b t) 0) (refusal 13 0) none rest (alike_end rest)))
 
 -- a call on a track is the question for it, then the rest
-pub then_first : (v : Edition) (b : List ℕ) (t : ℕ) (rest : Refusal) → track_then v b t rest ≡ first_of (track_question v b t) rest
+pub then_first : (v : Edition) (b : List ℕ) (t : ℕ) (rest : Fault) → track_then v b t rest ≡ first_of (track_question v b t) rest
 then_first v b t rest =
     elim (ℕ_discrete (track_question v b t).number 0) [
       | yes z ↦ sym (then_rest v b t rest (there v b t none z)) ∙ first_next (track_question v b t) rest refl z refl
@@ -97,7 +97,7 @@ then_first v b t rest =
 -- a revolution read from its track header
 module _ (b : List ℕ) (e k : ℕ) where
   -- absent: its number is that of the case
-  pub absent_on : {f : Refusal} → of_presence Absent ≡ revolution_fault b k → f ≡ of_presence Absent
+  pub absent_on : {f : Fault} → of_presence Absent ≡ revolution_fault b k → f ≡ of_presence Absent
       → revolution-answer.Refused f ≡ revolution_on b k (entry.At e)
   absent_on l g = unless_refused (revolution_fault b k) _ revolution-answer.Refused (g ∙ l) (is_refusal 13 g)
 
@@ -106,7 +106,7 @@ module _ (b : List ℕ) (e k : ℕ) where
       → revolution-answer.Found d ≡ revolution_on b k (entry.At e)
   unfolding revolution_of
   present_on {d} h l =
-      unless_found (revolution_fault b k) _ revolution-answer.Refused (ap (λ (x : Refusal). x.number) (sym l)) (ap revolution-answer.Found same)
+      unless_found (revolution_fault b k) _ revolution-answer.Refused (ap (λ (x : Fault). x.number) (sym l)) (ap revolution-answer.Found same)
     where
       by : (x : Bool) → Present d ≡ cond x (Present (data_of b e k)) Absent → d ≡ data_of b e k
       by true h = cc
@@ -116,7 +116,7 @@ module _ (b : List ℕ) (e k : ℕ) where
       same = by (ltb k (revolutions b)) h
 
 -- on a track that q found or refused: refused by q, then 14
-module _ (b : List ℕ) (k e : ℕ) (q : Refusal) where
+module _ (b : List ℕ) (k e : ℕ) (q : Fault) where
   on_by : (x : Bool) → passes q ≡ x
       → revolution_on b k (cond x (entry.At e) (entry.Refused q))
       ≡ unless (refuse_if (not x) q (revolution_fault b k)) (revolution-answer.Found (data_of b e k)) revolution-answer.Refused
@@ -130,7 +130,7 @@ module _ (b : List ℕ) (k e : ℕ) (q : Refusal) where
   revolution_on_is = on_by (passes q) refl
 
 -- what q found or refused
-module _ (q : Refusal) (x : RevolutionData) where
+module _ (q : Fault) (x : RevolutionData) where
   pub told_found : {d : RevolutionData} → revolution-answer.Found d ≡ unless q (revolution-answer.Found x) revolution-answer.Refused
       → (q.number ≡ 0) × (d ≡ x)
   told_found {d} h = go (passes q) refl h
@@ -140,7 +140,7 @@ module _ (q : Refusal) (x : RevolutionData) where
       go true p h = (eqb-true q.number 0 p, cc)
       go false p h = let z : ◌≡◌ {A = ℕ} 0 1 = cc in absurd (omega arith)
 
-  pub told_refused : {f : Refusal} → revolution-answer.Refused f ≡ unless q (revolution-answer.Found x) revolution-answer.Refused
+  pub told_refused : {f : Fault} → revolution-answer.Refused f ≡ unless q (revolution-answer.Found x) revolution-answer.Refused
       → (f ≡ q) × (f.number ≡ 0 → ⊥)
   told_refused {f} h = go (passes q) refl h
     where
@@ -149,7 +149,7 @@ module _ (q : Refusal) (x : RevolutionData) where
       go true p h = let z : ◌≡◌ {A = ℕ} 0 1 = cc in absurd (omega arith)
       go false p h =
           let e : f ≡ q = cc in
-          (e, λ z. eqb-false q.number 0 p (ap (λ (x : Refusal). x.number) (sym e) ∙ z))
+          (e, λ z. eqb-false q.number 0 p (ap (λ (x : Fault). x.number) (sym e) ∙ z))
 
 -- flux that lies in the image starts where its numbers say
 pub start_in_lem : (b : List ℕ) (r : RevolutionAnswer)
@@ -163,7 +163,7 @@ module _ (v : Edition) (b : List ℕ) (t k : ℕ) where
   unfolding found_track found_revolution
   found_on =
       revolution_on_is b k (track_entry b t) (track_question v b t)
-      ∙ ap (λ (q : Refusal). unless q (revolution-answer.Found (data_of b (track_entry b t) k)) revolution-answer.Refused)
+      ∙ ap (λ (q : Fault). unless q (revolution-answer.Found (data_of b (track_entry b t) k)) revolution-answer.Refused)
       (sym (then_first v b t (revolution_fault b k)))
 
   -- the revolution is there
@@ -174,12 +174,12 @@ module _ (v : Edition) (b : List ℕ) (t k : ℕ) where
   pub revolution_passes : RevolutionThere → (revolution_question v b t k).number ≡ 0
   unfolding refuse_if
   revolution_passes h =
-      ap (λ (x : Refusal). x.number) (sym (then_rest v b t _ h.track)) ∙ simp (lt-leb (revolutions b) k h.below)
+      ap (λ (x : Fault). x.number) (sym (then_rest v b t _ h.track)) ∙ simp (lt-leb (revolutions b) k h.below)
 
   pub revolution_there : (revolution_question v b t k).number ≡ 0 → RevolutionThere
   revolution_there z =
       let h = there v b t _ z in
-      let rest = ap (λ (x : Refusal). x.number) (then_rest v b t _ h) ∙ z in
+      let rest = ap (λ (x : Fault). x.number) (then_rest v b t _ h) ∙ z in
       record { track = h; below = leb-false (revolutions b) k (not_refused (leb (revolutions b) k) 13 0 none rest).0 }
 
   pub revolution_found : {d : RevolutionData} → RevolutionThere → d ≡ data_of b (track_entry b t) k → revolution-answer.Found d ≡ found_revolution v b t k
@@ -198,11 +198,11 @@ module _ (v : Edition) (b : List ℕ) (t k : ℕ) where
       record { present = revolution_there told.0; same = told.1 }
 
   -- one that is refused is refused by the question
-  pub record RevolutionRefused (f : Refusal) : Type 0 where
+  pub record RevolutionRefused (f : Fault) : Type 0 where
     pub refuses : f ≡ revolution_question v b t k
     pub number : f.number ≡ 0 → ⊥
 
-  pub found_refused : {f : Refusal} → revolution-answer.Refused f ≡ found_revolution v b t k → RevolutionRefused f
+  pub found_refused : {f : Fault} → revolution-answer.Refused f ≡ found_revolution v b t k → RevolutionRefused f
   unfolding found_revolution
   found_refused h =
       let told = told_refused (revolution_question v b t k) (data_of b (track_entry b t) k) h in

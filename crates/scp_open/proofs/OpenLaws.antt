@@ -5,7 +5,7 @@ use mathlib.Core.List.{List}
 use mathlib.Core.Bool.{true}
 use native.Mathlib.Omega.{arith}
 use borrow.Author.Tests.{eq-eqb, ne_eqb, le-leb}
-use Rattle.refusals.specs.declared.Refusal.{Refusal}
+use Rattle.refusals.specs.Refusals.{Fault}
 use Rattle.refusals.specs.Refusals.{first_of}
 use Rattle.scp_fields.specs.declared.Edition.{Edition}
 use Rattle.scp_footer.specs.Footer.{footer_fault}
@@ -23,14 +23,14 @@ module _ (v : Edition) (b : List ℕ) where
       ap (tracks_fault_in v b 0) e ∙ ap (first_from (track_fault v b) 0) (omega arith)
 
   -- with the footer and over all slots, what refuses is what opening finds
-  pub whole_fault : {f : Refusal} {n : ℕ} → n ≡ slots v → f ≡ fault_in v b true 0 n → f ≡ open_fault v b
+  pub whole_fault : {f : Fault} {n : ℕ} → n ≡ slots v → f ≡ fault_in v b true 0 n → f ≡ open_fault v b
   unfolding open_fault
-  whole_fault s e = e ∙ ap (λ (tracks : Refusal). first_of (header_fault v b) (first_of (footer_fault v b) tracks)) (whole_walk s)
+  whole_fault s e = e ∙ ap (λ (tracks : Fault). first_of (header_fault v b) (first_of (footer_fault v b) tracks)) (whole_walk s)
 
 -- f is what opening finds
-module _ (v : Edition) (b : List ℕ) {f : Refusal} (e : f ≡ open_fault v b) where
+module _ (v : Edition) (b : List ℕ) {f : Fault} (e : f ≡ open_fault v b) where
   number_is : f.number ≡ (open_fault v b).number
-  number_is = ap (λ (x : Refusal). x.number) e
+  number_is = ap (λ (x : Fault). x.number) e
 
   pub opened_refused : (f.number ≡ 0 → ⊥) → refused_image f ≡ opened_of v b
   unfolding opened_of
@@ -38,4 +38,4 @@ module _ (v : Edition) (b : List ℕ) {f : Refusal} (e : f ≡ open_fault v b) w
 
   pub opened_passes : f.number ≡ 0 → opened_image f v b ≡ opened_of v b
   unfolding opened_of
-  opened_passes n = ap (λ (x : Refusal). opened_image x v b) e ∙ sym (simp (eq-eqb (open_fault v b).number 0 (sym number_is ∙ n)))
+  opened_passes n = ap (λ (x : Fault). opened_image x v b) e ∙ sym (simp (eq-eqb (open_fault v b).number 0 (sym number_is ∙ n)))

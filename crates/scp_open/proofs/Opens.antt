@@ -9,7 +9,7 @@ use native.Mathlib.Omega.{arith}
 use lib.ListN.{length}
 use lib.Dec.{eqb, ltb}
 use borrow.Author.Tests.{ltb-false, le-ltb, eqb-true, eqb-false, eq-eqb, ne_eqb, not-false}
-use Rattle.refusals.specs.declared.Refusal.{Refusal}
+use Rattle.refusals.specs.Refusals.{Fault}
 use Rattle.octets.specs.Numbers.{byte_at, le16_at}
 use Rattle.refusals.specs.Refusals.{none}
 use Rattle.scp_fields.specs.declared.Edition.{Edition}
@@ -229,4 +229,4 @@ clear_open v b =
     clear_first (header_fault v b) _ (clear_first (footer_fault v b) (tracks_fault v b) (clear_from_all (track_fault v b) 0 (slots v)))
 
 pub opens_exactly : OpensExactly
-opens_exactly v b = (λ e. opens v b (ap (λ (f : Refusal). f.number) e), λ h. clear_open v b (clears v b h))
+opens_exactly v b = (λ e. opens v b (ap (λ (f : Fault). f.number) e), λ h. clear_open v b (clears v b h))

@@ -1,6 +1,6 @@
 -- Opening: refusals 1 to 11 and 19 in their order (RO-3, RO-4), and the opened image (T-1).
 use Rattle.std.specs.Prelude.{ℕ, List, Bool, cond, replicate}
-use Rattle.refusals.specs.declared.Refusal.{Refusal}
+use Rattle.refusals.specs.Refusals.{Fault}
 use Rattle.refusals.specs.Refusals.{none, passes, first_of}
 use Rattle.scp_fields.specs.declared.Edition.{Edition}
 use Rattle.scp_fields.specs.Header.{track_slots, version, disk, revolutions, start_track, end_track, flags, width, heads, stored_sum, entries}
@@ -11,15 +11,15 @@ use Rattle.scp_open.specs.declared.Header.{Header}
 use Rattle.scp_open.specs.declared.Opened.{Opened}
 
 -- RO-3, RO-4, T-1: what refuses the image: 1 to 6, then 7, then the strings with 8 and 19, then the tracks with 9 to 11.
-unfoldable pub open_fault : Edition → List ℕ → Refusal
+unfoldable pub open_fault : Edition → List ℕ → Fault
 open_fault v b = first_of (header_fault v b) (first_of (footer_fault v b) (tracks_fault v b))
 
 -- RO-3, DI-1: what refuses the footer, where it is tested.
-abbrev pub footer_fault_if : Edition → List ℕ → Bool → Refusal
+abbrev pub footer_fault_if : Edition → List ℕ → Bool → Fault
 footer_fault_if v b footer = cond footer (footer_fault v b) none
 
 -- RO-3, RO-4, DI-1: what refuses the header, the footer where it is tested, and the tracks from i up to j, which is left out.
-abbrev pub fault_in : Edition → List ℕ → Bool → ℕ → ℕ → Refusal
+abbrev pub fault_in : Edition → List ℕ → Bool → ℕ → ℕ → Fault
 fault_in v b footer i j = first_of (header_fault v b) (first_of (footer_fault_if v b footer) (tracks_fault_in v b i j))
 
 -- T-1: the header as it is handed out.
@@ -43,11 +43,11 @@ no_header =
     record { version = 0; disk = 0; revolutions = 0; start = 0; end = 0; flags = 0; width = 0; heads = 0; checksum = 0 }
 
 -- T-1: an image that is not refused, with its header and its table.
-abbrev pub opened_image : Refusal → Edition → List ℕ → Opened
+abbrev pub opened_image : Fault → Edition → List ℕ → Opened
 opened_image f v b = record { refusal = f; header = header_of b; table = entries v b }
 
 -- T-1: a refused image: no header, and no track in the table.
-abbrev pub refused_image : Refusal → Opened
+abbrev pub refused_image : Fault → Opened
 refused_image f = record { refusal = f; header = no_header; table = replicate track_slots 0 }
 
 -- T-1: what opening gives.

@@ -6,7 +6,7 @@ use mathlib.Core.Bool.{Bool, true, false, cond}
 use native.Mathlib.Omega.{arith}
 use lib.ListN.{length}
 use borrow.Author.Tests.{ne_eqb, le-ltb}
-use Rattle.refusals.specs.declared.Refusal.{Refusal}
+use Rattle.refusals.specs.Refusals.{Fault}
 use Rattle.refusals.specs.Refusals.{refusal}
 use Rattle.flux.specs.Coding.{bad_flux_size, flux_limit}
 use Rattle.flux.specs.Answers.{Answer, refused, gives, words_refused}
@@ -35,7 +35,7 @@ module _ (b : List ℕ) (d : RevolutionData) where
   given_by m true e = let z : ◌≡◌ {A = ℕ} 0 1 = cc in absurd (omega arith)
   given_by m false e = cc
 
-  refused_by : (r : Refusal) (x : Bool) → refused r.number r.position ≡ summed x → described-answer.Refused r ≡ by x
+  refused_by : (r : Fault) (x : Bool) → refused r.number r.position ≡ summed x → described-answer.Refused r ≡ by x
   refused_by r true e =
       let number : r.number ≡ 17 = cc in
       let position : r.position ≡ 0 = cc in
@@ -49,7 +49,7 @@ module _ (b : List ℕ) (d : RevolutionData) where
       ≡ described_on b (revolution-answer.Found d)
   given m = given_by m (bad_flux_size (length (flux_of b d)))
 
-  pub not_given : (r : Refusal) → refused r.number r.position ≡ summarizing (flux_of b d)
+  pub not_given : (r : Fault) → refused r.number r.position ≡ summarizing (flux_of b d)
       → described-answer.Refused r ≡ described_on b (revolution-answer.Found d)
   not_given r = refused_by r (bad_flux_size (length (flux_of b d)))
 

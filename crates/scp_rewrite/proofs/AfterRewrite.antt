@@ -2,7 +2,7 @@
 -- sets and what it keeps.
 use Rattle.std.proofs.Common.{◌≡◌, ℕ, ◌<◌, ◌≤◌, Bool, true, false, cond, ◌&&◌, eqb, ◌≢◌, ◌⊎◌, ◌↔◌, List, length, refl, ap, ◌∙◌, inl, inr, arith}
 use Rattle.octets.specs.Numbers.{byte_at, Octets}
-use Rattle.refusals.specs.declared.Refusal.{Refusal}
+use Rattle.refusals.specs.Refusals.{Fault}
 use Rattle.refusals.specs.Refusals.{none, refusal, passes, refuse_if}
 use Rattle.scp_fields.specs.declared.Edition.{Edition}
 use Rattle.scp_fields.specs.Editions.{slots}
@@ -31,7 +31,7 @@ module _ (v : Edition) (b : List ℕ) (t k : ℕ) (ws : List ℕ) (q : revolutio
   -- 17 and 18 then decide
   words_next : rewrite_fault v b t k ws ≡ words_then_shared v b (track_entry b t) t k (length ws)
   unfolding rewrite_fault
-  words_next = asked_rest v b t k _ (asked v b t k none (ap (λ (f : Refusal). f.number) q)).0
+  words_next = asked_rest v b t k _ (asked v b t k none (ap (λ (f : Fault). f.number) q)).0
 
   words_refused_lem : bad_words (count_at b (track_entry b t) k) (length ws) ≡ true → rewrite_fault v b t k ws ≡ refusal 17 0
   unfolding words_then_shared refuse_if
@@ -40,7 +40,7 @@ module _ (v : Edition) (b : List ℕ) (t k : ℕ) (ws : List ℕ) (q : revolutio
   unshared_accepted : bad_words (count_at b (track_entry b t) k) (length ws) ≡ false → (ClaimedTwice v b t k → ⊥) → rewrite_fault v b t k ws ≡ none
   unfolding words_then_shared refuse_if
   unshared_accepted w n =
-      let a = (asked v b t k none (ap (λ (f : Refusal). f.number) q)).0 in
+      let a = (asked v b t k none (ap (λ (f : Fault). f.number) q)).0 in
       words_next ∙ simp w (by (shared v b (stand_at b (track_entry b t) k) t k) (shared_exactly v b t k a.present a.below))
     where
       by : (x : Bool) → (x ≡ true) ↔ ClaimedTwice v b t k → refuse_if x (refusal 18 0) none ≡ none

@@ -1,7 +1,7 @@
 -- What a rewrite answers and leaves, by what refuses it.
 use Rattle.std.proofs.Common.{◌≡◌, ℕ, ◌≢◌, List, [], length, sym, ap, ◌∙◌, eq-eqb, ne_eqb}
 use mathlib.Core.Path.{subst⁻¹}
-use Rattle.refusals.specs.declared.Refusal.{Refusal}
+use Rattle.refusals.specs.Refusals.{Fault}
 use Rattle.scp_fields.specs.declared.Edition.{Edition}
 use Rattle.scp_fields.specs.Header.{track_entry}
 use Rattle.scp.specs.Answers.{refused, numbers}
@@ -13,13 +13,13 @@ use Rattle.scp_sharing.proofs.Accepted.{accepted}
 use Rattle.scp_rewrite.proofs.Frame.{lies}
 
 -- f is what refuses it
-module _ (v : Edition) (b : List ℕ) (t k : ℕ) (ws : List ℕ) {f : Refusal} (q : f ≡ rewrite_fault v b t k ws) where
+module _ (v : Edition) (b : List ℕ) (t k : ℕ) (ws : List ℕ) {f : Fault} (q : f ≡ rewrite_fault v b t k ws) where
   number_is : f.number ≡ (rewrite_fault v b t k ws).number
-  number_is = ap (λ (x : Refusal). x.number) q
+  number_is = ap (λ (x : Fault). x.number) q
 
   pub answers_refused : f.number ≢ 0 → refused f.number f.position ≡ rewrite_answer v b t k ws
   answers_refused n =
-      ap (λ (x : Refusal). refused x.number x.position) q
+      ap (λ (x : Fault). refused x.number x.position) q
       ∙ sym (simp (ne_eqb (rewrite_fault v b t k ws).number 0 (λ z. n (number_is ∙ z))))
 
   pub answers_done : f.number ≡ 0 → numbers [] ≡ rewrite_answer v b t k ws

@@ -8,7 +8,7 @@ use native.Mathlib.Omega.{arith}
 use lib.ListN.{length}
 use lib.Dec.{eqb}
 use borrow.Author.Tests.{ltb-false, eqb-true, eqb-false}
-use Rattle.refusals.specs.declared.Refusal.{Refusal}
+use Rattle.refusals.specs.Refusals.{Fault}
 use Rattle.refusals.specs.Refusals.{none, refusal, passes, refuse_if}
 use Rattle.refusals.proofs.Finding.{neither, not_refused}
 use Rattle.flux.specs.Coding.{flux_limit, bad_flux_size}
@@ -56,14 +56,14 @@ module _ (v : Edition) (b : List ℕ) (t k : ℕ) (ws : List ℕ) where
       → (rewrite_fault v b t k ws ≡ refusal 18 0) ↔ ClaimedTwice v b t k
   unfolding rewrite_fault words_then_shared refuse_if
   shared_refused q w =
-      let a = (asked v b t k none (ap (λ (f : Refusal). f.number) q)).0 in
+      let a = (asked v b t k none (ap (λ (f : Fault). f.number) q)).0 in
       rw (asked_rest v b t k (words_then_shared v b (track_entry b t) t k (length ws)) a, w)
       (by (shared v b (stand_at b (track_entry b t) k) t k) (shared_exactly v b t k a.present a.below))
     where
       by : (x : Bool) → (x ≡ true) ↔ ClaimedTwice v b t k → (refuse_if x (refusal 18 0) none ≡ refusal 18 0) ↔ ClaimedTwice v b t k
       by true i = (λ e. i.0 refl, λ c. refl)
       by false i = (
-        λ e. let z : ◌≡◌ {A = ℕ} 0 18 = ap (λ (f : Refusal). f.number) e in absurd (omega arith),
+        λ e. let z : ◌≡◌ {A = ℕ} 0 18 = ap (λ (f : Fault). f.number) e in absurd (omega arith),
         λ c. absurd (true≢false (sym (i.1 c))),
       )
 

@@ -9,7 +9,7 @@ use native.Mathlib.Omega.{arith}
 use lib.ListN.{length}
 use lib.Dec.{eqb, leb}
 use borrow.Author.Tests.{lt-leb, leb-false}
-use Rattle.refusals.specs.declared.Refusal.{Refusal}
+use Rattle.refusals.specs.Refusals.{Fault}
 use Rattle.refusals.specs.Refusals.{none, refusal, passes, refuse_if, first_of}
 use Rattle.refusals.proofs.Finding.{not_refused}
 use Rattle.scp_fields.specs.declared.Edition.{Edition}
@@ -25,12 +25,12 @@ use Rattle.scp_sharing.specs.RewriteFault.{words_then_shared, rewrite_fault}
 use Rattle.scp_sharing.specs.Sharing.{Present}
 use Rattle.scp_sharing.specs.Walk.{Inside}
 
-module _ (v : Edition) (b : List ℕ) (t k : ℕ) (rest : Refusal) where
+module _ (v : Edition) (b : List ℕ) (t k : ℕ) (rest : Fault) where
   pub question_first : revolution_question v b t k ≢ none → revolution_then v b t k rest ≡ revolution_question v b t k
   unfolding track_then first_of refuse_if
   question_first = by (passes (open_fault v b)) (leb (slots v) t) (eqb (track_entry b t) 0) (leb (revolutions b) k)
     where
-      asking : Bool → Bool → Bool → Bool → Refusal → Refusal
+      asking : Bool → Bool → Bool → Bool → Fault → Fault
       asking opens high absent beyond last =
           refuse_if (not opens) (open_fault v b)
           (refuse_if high (refusal 13 0) (refuse_if absent (refusal 13 0) (refuse_if beyond (refusal 14 0) last)))
@@ -53,9 +53,9 @@ headers_inside o u h n = let below = (o.tracks u h n).below in omega arith
 -- ---- what refuses a rewrite
 
 module _ (v : Edition) (b : List ℕ) (t k : ℕ) (ws : List ℕ) where
-  pub fault_refused : {f : Refusal} → f ≡ revolution_question v b t k → f.number ≢ 0 → f ≡ rewrite_fault v b t k ws
+  pub fault_refused : {f : Fault} → f ≡ revolution_question v b t k → f.number ≢ 0 → f ≡ rewrite_fault v b t k ws
   unfolding rewrite_fault
-  fault_refused {f} e n = e ∙ sym (question_first v b t k _ (λ z. n (ap (λ (x : Refusal). x.number) (e ∙ z))))
+  fault_refused {f} e n = e ∙ sym (question_first v b t k _ (λ z. n (ap (λ (x : Fault). x.number) (e ∙ z))))
 
   pub fault_there : RevolutionThere v b t k → words_then_shared v b (track_entry b t) t k (length ws) ≡ rewrite_fault v b t k ws
   unfolding rewrite_fault
@@ -69,11 +69,11 @@ pub record Asked (v : Edition) (b : List ℕ) (t k : ℕ) : Type 0 where
   pub present : Present v b t
   pub below : k < revolutions b
 
-module _ (v : Edition) (b : List ℕ) (t k : ℕ) (rest : Refusal) where
+module _ (v : Edition) (b : List ℕ) (t k : ℕ) (rest : Fault) where
   pub asked : (revolution_then v b t k rest).number ≡ 0 → Asked v b t k × (rest.number ≡ 0)
   asked e =
       let track = there v b t _ e in
-      let last = not_refused (leb (revolutions b) k) 13 0 rest (ap (λ (x : Refusal). x.number) (then_rest v b t _ track) ∙ e) in
+      let last = not_refused (leb (revolutions b) k) 13 0 rest (ap (λ (x : Fault). x.number) (then_rest v b t _ track) ∙ e) in
       (record { opens = opens v b track.opened; present = (track.slot, track.entry); below = leb-false (revolutions b) k last.0 }, last.1)
 
   -- what comes after then decides

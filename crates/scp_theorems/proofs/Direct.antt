@@ -9,7 +9,7 @@ use native.Mathlib.Omega.{arith}
 use lib.ListN.{length}
 use lib.Dec.{eqb, leb}
 use borrow.Author.Tests.{leb-false}
-use Rattle.refusals.specs.declared.Refusal.{Refusal}
+use Rattle.refusals.specs.Refusals.{Fault}
 use Rattle.refusals.specs.Refusals.{none, refusal, passes, refuse_if, first_of}
 use Rattle.refusals.specs.Refusals as refusals
 use Rattle.refusals.proofs.Chain.{first_next}
@@ -58,7 +58,7 @@ open_one v b =
 
 module _ (v : Edition) (b : List ℕ) (opens : open_fault v b ≡ none) where
   number : (open_fault v b).number ≡ 0
-  number = ap (λ (f : Refusal). f.number) opens
+  number = ap (λ (f : Fault). f.number) opens
 
   -- neither its header nor a track is refused
   parts : ((header_fault v b).number ≡ 0) × ((tracks_fault v b).number ≡ 0)
@@ -80,34 +80,34 @@ module _ (v : Edition) (b : List ℕ) (opens : open_fault v b ≡ none) where
           → refuse_if x (refusal 13 0) (refuse_if (eqb (track_entry b t) 0) (refusal 13 0) (track_fault v b t))
           ≡ refuse_if x (refusal 13 0) (refuse_if (eqb (track_entry b t) 0) (refusal 13 0) none)
       by true h = refl
-      by false h = ap (λ (f : Refusal). refuse_if (eqb (track_entry b t) 0) (refusal 13 0) f) (track_clear t (leb-false (slots v) t h))
+      by false h = ap (λ (f : Fault). refuse_if (eqb (track_entry b t) 0) (refusal 13 0) f) (track_clear t (leb-false (slots v) t h))
 
   same_revolution : (t k : ℕ) → direct_revolution_question v b t k ≡ revolution_question v b t k
   unfolding direct_revolution_question
   same_revolution t k =
-      ap (λ (q : Refusal). first_of q (revolution_fault b k)) (same_track t) ∙ sym (then_first v b t (revolution_fault b k))
+      ap (λ (q : Fault). first_of q (revolution_fault b k)) (same_track t) ∙ sym (then_first v b t (revolution_fault b k))
 
   same_found : (t k : ℕ) → direct_found v b t k ≡ found_revolution v b t k
   unfolding direct_found found_revolution
   same_found t k =
-      ap (λ (q : Refusal). refusals.unless q (revolution-answer.Found (data_of b (track_entry b t) k)) revolution-answer.Refused)
+      ap (λ (q : Fault). refusals.unless q (revolution-answer.Found (data_of b (track_entry b t) k)) revolution-answer.Refused)
       (same_revolution t k)
 
   pub same_answers : SameAnswers v b
   unfolding direct_track track_answer direct_revolution revolution_answer
   same_answers =
       record {
-        track = λ t. ap (λ (q : Refusal). unless q (track_values b t)) (same_track t);
-        revolution = λ t k. ap (λ (q : Refusal). unless q (revolution_values b t k)) (same_revolution t k);
+        track = λ t. ap (λ (q : Fault). unless q (track_values b t)) (same_track t);
+        revolution = λ t k. ap (λ (q : Fault). unless q (revolution_values b t k)) (same_revolution t k);
         flux = λ t k.
             ap (λ (r : RevolutionAnswer). unless (direct_revolution_question v b t k) (bytes (start_of r) (part_of b r))) (same_found t k)
-            ∙ ap (λ (q : Refusal). unless q (bytes (flux_start v b t k) (flux_part v b t k))) (same_revolution t k);
+            ∙ ap (λ (q : Fault). unless q (bytes (flux_start v b t k) (flux_part v b t k))) (same_revolution t k);
         part = λ t k. ap (part_of b) (same_found t k);
         start = λ t k. ap start_of (same_found t k);
       }
 
   -- the number of a refusal is not one of 1 to 11 and 19
-  abbrev Later : Refusal → Type 0
+  abbrev Later : Fault → Type 0
   Later f = OfOpening f.number → ⊥
 
   late : (n : ℕ) → 12 ≤ n → n ≤ 18 → Later (refusal n 0)
@@ -116,7 +116,7 @@ module _ (v : Edition) (b : List ℕ) (opens : open_fault v b ≡ none) where
   late_none : Later none
   late_none = ⊎_elim (λ o. omega (arith, o.0)) (λ o. omega arith)
 
-  late_then : (t : ℕ) (rest : Refusal) → Later rest → Later (track_then v b t rest)
+  late_then : (t : ℕ) (rest : Fault) → Later rest → Later (track_then v b t rest)
   late_then t rest h =
       rw (sym (opens_then v b t rest number))
       (holds_if Later (leb (slots v) t) (refusal 13 0) _ (late 13 (omega arith) (omega arith))
@@ -135,7 +135,7 @@ agrees = same_answers
 -- ---- a refusal by 1 to 11 and 19
 
 -- an answer that is a refusal has the number of what refuses
-told_number : (q : Refusal) (a : Answer) (n p : ℕ) → (a ≡ refused n p → ⊥) → unless q a ≡ refused n p → q.number ≡ n
+told_number : (q : Fault) (a : Answer) (n p : ℕ) → (a ≡ refused n p → ⊥) → unless q a ≡ refused n p → q.number ≡ n
 told_number q a n p other e = by (passes q) e
   where
     by : (x : Bool) → cond x a (refused q.number q.position) ≡ refused n p → q.number ≡ n
@@ -151,11 +151,11 @@ no_bytes n p s bs e = let z : ◌≡◌ {A = ℕ} 0 1 = cc in absurd (omega arit
 
 module _ (v : Edition) (b : List ℕ) (n p : ℕ) (one : OfOpening n) where
   -- where the question is refused by nothing of 1 to 11 and 19 once the image opens, the image does not open
-  closed : (q : Refusal) (a : Answer) → (a ≡ refused n p → ⊥) → unless q a ≡ refused n p → (OfOpening q.number → ⊥) → ⊥
+  closed : (q : Fault) (a : Answer) → (a ≡ refused n p → ⊥) → unless q a ≡ refused n p → (OfOpening q.number → ⊥) → ⊥
   closed q a other e h = h (rw (told_number q a n p other e) one)
 
   -- then the full call is refused by opening
-  too : (t : ℕ) (rest : Refusal) (a : Answer) → open_fault v b ≢ none → RefusedToo v b (unless (track_then v b t rest) a)
+  too : (t : ℕ) (rest : Fault) (a : Answer) → open_fault v b ≢ none → RefusedToo v b (unless (track_then v b t rest) a)
   too t rest a shut =
       let nonzero : (open_fault v b).number ≡ 0 → ⊥ = λ z. shut (clear_open v b z) in
       record { opening = shut; number = open_one v b nonzero; answer = sym (unless_refused (track_then v b t rest) a (then_open v b t rest refl nonzero) nonzero) }

@@ -12,7 +12,7 @@ use lib.Dec.{eqb, leb}
 use borrow.Author.Tests.{eqb-true, eqb-false, leb-false}
 use Rattle.octets.specs.Numbers.{byte_at, le32_at}
 use Rattle.octets.proofs.Numbers.{le_same}
-use Rattle.refusals.specs.declared.Refusal.{Refusal}
+use Rattle.refusals.specs.Refusals.{Fault}
 use Rattle.refusals.specs.Refusals.{refusal, passes, refuse_if, first_of}
 use Rattle.refusals.specs.Search.{any_from}
 use Rattle.refusals.proofs.Answers.{unless_refused}
@@ -36,7 +36,7 @@ use Rattle.scp_direct.proofs.DirectLaws.{direct_there, direct_below, direct_is_f
 use Rattle.scp_theorems.specs.Direct.{SameBytes, SameTrack, SameLook, LooksOnly}
 
 -- an answer that the question q lets through is the same where q does
-same_unless : (q : Refusal) (a d : Answer) → (passes q ≡ true → a ≡ d) → unless q a ≡ unless q d
+same_unless : (q : Fault) (a d : Answer) → (passes q ≡ true → a ≡ d) → unless q a ≡ unless q d
 same_unless q a d h = by (passes q) refl
   where
     by : (x : Bool) → passes q ≡ x → cond x a (refused q.number q.position) ≡ cond x d (refused q.number q.position)
@@ -167,7 +167,7 @@ module _ (v : Edition) (t : ℕ) (b c : List ℕ) (s : SameTrack v t b c) where
   same_track_answer =
       same_unless (direct_track_question v b t) (track_values b t) (track_values c t) (λ p.
       cc (same_entry (direct_there v b t (eqb-true _ 0 p)).slot, same_revolutions))
-      ∙ ap (λ (q : Refusal). unless q (track_values c t)) same_track
+      ∙ ap (λ (q : Fault). unless q (track_values c t)) same_track
 
   pub same_revolution : (k : ℕ) → direct_revolution v b t k ≡ direct_revolution v c t k
   unfolding direct_revolution
@@ -175,7 +175,7 @@ module _ (v : Edition) (t : ℕ) (b c : List ℕ) (s : SameTrack v t b c) where
       same_unless (direct_revolution_question v b t k) (revolution_values b t k) (revolution_values c t k) (λ p.
       let held = direct_below v b t k (eqb-true _ 0 p) in
       same_values held.0.slot held.0.entry k held.1)
-      ∙ ap (λ (q : Refusal). unless q (revolution_values c t k)) (same_question k)
+      ∙ ap (λ (q : Fault). unless q (revolution_values c t k)) (same_question k)
 
   -- ---- the flux
 
@@ -194,7 +194,7 @@ module _ (v : Edition) (t : ℕ) (b c : List ℕ) (s : SameTrack v t b c) where
         by true p =
             let z = eqb-true _ 0 p in
             let held = direct_below v b t k z in
-            let zc = ap (λ (q : Refusal). q.number) (sym (same_question k)) ∙ z in
+            let zc = ap (λ (q : Fault). q.number) (sym (same_question k)) ∙ z in
             both (data_of b e k) (direct_is_found v b t k z)
             (ap Found (same_data held.0.slot held.0.entry k held.1) ∙ direct_is_found v c t k zc)
         by false p =

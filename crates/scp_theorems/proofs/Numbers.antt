@@ -1,7 +1,7 @@
 -- What holds of the number of each refusal that opening, or a direct call, can find, and of 0, holds of the number that it finds.
 use Prim.Native.Nat.{ℕ}
 use mathlib.Core.List.{List}
-use Rattle.refusals.specs.declared.Refusal.{Refusal}
+use Rattle.refusals.specs.Refusals.{Fault}
 use Rattle.refusals.proofs.Finding.{holds_if, holds_first, holds_from}
 use Rattle.scp_fields.specs.declared.Edition.{Edition}
 use Rattle.scp_fields.specs.Editions.{slots}
@@ -14,7 +14,7 @@ use Rattle.scp_lookup.specs.Questions.{track_then, revolution_then}
 
 module _ (P : ℕ → Type 0) where
   -- of a refusal
-  abbrev pub Numbered : Refusal → Type 0
+  abbrev pub Numbered : Fault → Type 0
   Numbered f = P f.number
 
   module _ (v : Edition) (b : List ℕ) where
@@ -57,11 +57,11 @@ module _ (P : ℕ → Type 0) where
         (holds_first Numbered (footer_fault v b) (tracks_fault v b) foot (tracks_number z p9 p10 p11))
 
     -- a call on a track: 13 besides, and what comes after
-    pub track_asked : Numbered (open_fault v b) → P 13 → (t : ℕ) (rest : Refusal) → Numbered rest → Numbered (track_then v b t rest)
+    pub track_asked : Numbered (open_fault v b) → P 13 → (t : ℕ) (rest : Fault) → Numbered rest → Numbered (track_then v b t rest)
     unfolding track_then
     track_asked first p13 t rest h =
         holds_first Numbered (open_fault v b) _ first (holds_if Numbered _ _ _ p13 (holds_if Numbered _ _ _ p13 h))
 
     -- a call on a revolution: 14, too
-    pub asked_number : Numbered (open_fault v b) → P 13 → P 14 → (t k : ℕ) (rest : Refusal) → Numbered rest → Numbered (revolution_then v b t k rest)
+    pub asked_number : Numbered (open_fault v b) → P 13 → P 14 → (t k : ℕ) (rest : Fault) → Numbered rest → Numbered (revolution_then v b t k rest)
     asked_number first p13 p14 t k rest h = track_asked first p13 t _ (holds_if Numbered _ _ _ p14 h)

@@ -9,7 +9,7 @@ use mathlib.Core.Bool.{Bool, true, false, cond}
 use native.Mathlib.Omega.{arith}
 use lib.ListN.{length}
 use borrow.Author.Tests.{eqb-true, ne_eqb, le-ltb}
-use Rattle.refusals.specs.declared.Refusal.{Refusal}
+use Rattle.refusals.specs.Refusals.{Fault}
 use Rattle.refusals.specs.Refusals.{none, passes}
 use Rattle.flux.proofs.AnswerLaws.{places_only}
 use Rattle.flux_theorems.proofs.Closing.{two_lists}
@@ -37,7 +37,7 @@ track_number_lem t = record { whole = omega arith; side = omega arith }
 -- ---- the flux of a revolution is as long as its count says
 
 -- an answer with numbers is not refused, whatever the question, and its second number is the count
-pub counted : (q : Refusal) (b : List ℕ) (t k duration words offset : ℕ) → unless q (revolution_values b t k) ≡ numbers (duration ∷ words ∷ offset ∷ [])
+pub counted : (q : Fault) (b : List ℕ) (t k duration words offset : ℕ) → unless q (revolution_values b t k) ≡ numbers (duration ∷ words ∷ offset ∷ [])
     → (q.number ≡ 0) × (count_at b (track_entry b t) k ≡ words)
 counted q b t k duration words offset e = go (passes q) refl e
   where
@@ -113,7 +113,7 @@ module _ (v : Edition) (b : List ℕ) (t k places p : ℕ) where
   never (revolution-answer.Found d) h = read_whole (found_data v b t k h)
   never (revolution-answer.Refused f) h = λ e.
       let same : f.number ≡ 17 = ap number_of e in
-      let number = ap (λ (x : Refusal). x.number) (found_refused v b t k h).refuses in
+      let number = ap (λ (x : Fault). x.number) (found_refused v b t k h).refuses in
       between (revolution_asked v b t k) (omega arith) (omega arith) (sym number ∙ same)
 
 pub never_words : NeverWords
@@ -137,7 +137,7 @@ module _ (v : Edition) (b : List ℕ) (t k : ℕ) (times closings : List ℕ) wh
       let both = two_lists (flux_of b d) times closings in
       record { plain = both.plain; short = both.short (good_found v b t k (found_data v b t k h)); together = both.together }
   lists_of (revolution-answer.Refused f) h =
-      let number = ap (λ (x : Refusal). x.number) (found_refused v b t k h).refuses in
+      let number = ap (λ (x : Fault). x.number) (found_refused v b t k h).refuses in
       record {
         plain = λ _. refl;
         short = (

@@ -4,7 +4,7 @@ use mathlib.Core.Path.{◌≡◌, refl, sym, ap, ◌∙◌}
 use mathlib.Core.List.{List}
 use mathlib.Core.Bool.{Bool, true, false, cond}
 use borrow.Author.Tests.{eqb-true, not-false}
-use Rattle.refusals.specs.declared.Refusal.{Refusal}
+use Rattle.refusals.specs.Refusals.{Fault}
 use Rattle.refusals.specs.Refusals.{none}
 use Rattle.refusals.proofs.Finding.{Clear, both_clear, not_refused, clear_first, clear_refuse}
 use Rattle.scp_fields.specs.declared.Edition.{Edition}
@@ -43,6 +43,6 @@ module _ (v : Edition) (b : List ℕ) where
 
 pub validates_exactly : ValidatesExactly
 validates_exactly v b = (
-  λ e. obeys v b (ap (λ (x : Refusal). x.number) e),
+  λ e. obeys v b (ap (λ (x : Fault). x.number) e),
   λ h. clear_validate v b (validate_passes v b (clears v b h.opens) (stored_wanted v b h)),
 )

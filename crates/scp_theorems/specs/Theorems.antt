@@ -4,7 +4,7 @@ use Rattle.std.specs.Float.{binary64}
 use Rattle.std.specs.Float.Ieee.{of_int, to_unsigned, round, le}
 use Rattle.std.specs.Float.Ieee.Exact.{HasValue}
 use Rattle.octets.specs.Numbers.{Octets}
-use Rattle.refusals.specs.declared.Refusal.{Refusal}
+use Rattle.refusals.specs.Refusals.{Fault}
 use Rattle.refusals.specs.Refusals.{none}
 use Rattle.flux.specs.Coding.{words_of}
 use Rattle.flux.specs.Reading.{intervals, closing_numbers}
@@ -43,8 +43,8 @@ pub record NoFooter (b : List ℕ) : Type 0 where
   pub end : data_end V1_4 b ≡ length b
   pub opening : NotFooter (open_fault V1_4 b).number
   pub validating : NotFooter (validate_fault V1_4 b).number
-  pub track : (t : ℕ) (rest : Refusal) → NotFooter rest.number → NotFooter (track_then V1_4 b t rest).number
-  pub revolution : (t k : ℕ) (rest : Refusal) → NotFooter rest.number → NotFooter (revolution_then V1_4 b t k rest).number
+  pub track : (t : ℕ) (rest : Fault) → NotFooter rest.number → NotFooter (track_then V1_4 b t rest).number
+  pub revolution : (t k : ℕ) (rest : Fault) → NotFooter rest.number → NotFooter (revolution_then V1_4 b t k rest).number
   pub answer : open_fault V1_4 b ≡ none → footer_answer V1_4 b ≡ answers.none
 
 -- So it is of every image (V-3).

@@ -1,6 +1,6 @@
 -- A revolution as it is handed out: absent, or present with its numbers; and what refuses it.
 use Rattle.std.specs.Prelude.{ℕ, ◌+◌, List, cond, ltb, leb}
-use Rattle.refusals.specs.declared.Refusal.{Refusal}
+use Rattle.refusals.specs.Refusals.{Fault}
 use Rattle.refusals.specs.Refusals.{none, refusal, refuse_if}
 use Rattle.scp_fields.specs.Header.{revolutions}
 use Rattle.scp_tracks.specs.Tracks.{duration_at, count_at, distance_at}
@@ -21,10 +21,10 @@ unfoldable pub revolution_of : List ℕ → ℕ → ℕ → Revolution
 revolution_of b e k = cond (ltb k (revolutions b)) (Present (data_of b e k)) Absent
 
 -- Number of each case: an absent revolution is refused with 14 at position 0, a present one by nothing (T-6, R-14).
-abbrev pub of_presence : Revolution → Refusal
+abbrev pub of_presence : Revolution → Fault
 of_presence Absent = refusal 14 0
 of_presence (Present d) = none
 
 -- 14 Revolution: the revolution asked for is not below the number of revolutions (R-14).
-abbrev pub revolution_fault : List ℕ → ℕ → Refusal
+abbrev pub revolution_fault : List ℕ → ℕ → Fault
 revolution_fault b k = refuse_if (leb (revolutions b) k) (refusal 14 0) none

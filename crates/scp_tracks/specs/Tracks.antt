@@ -1,6 +1,6 @@
 -- Tracks, revolutions and their flux (L-13 to L-16, L-18), and refusals 9 to 11.
 use Rattle.std.specs.Prelude.{ℕ, ◌+◌, ◌-◌, ◌*◌, ◌/◌, ◌%◌, List, Bool, not, ◌&&◌, ◌||◌, cond, eqb, ltb, leb}
-use Rattle.refusals.specs.declared.Refusal.{Refusal}
+use Rattle.refusals.specs.Refusals.{Fault}
 use Rattle.octets.specs.Numbers.{byte_at, le32_at}
 use Rattle.refusals.specs.Refusals.{none, refusal, refuse_if}
 use Rattle.refusals.specs.Search.{any_from, first_from}
@@ -77,7 +77,7 @@ abbrev pub bad_flux : Edition → List ℕ → ℕ → Bool
 bad_flux v b e = any_from (flux_past (data_end v b) b e) 0 (revolutions b)
 
 -- RO-4: track t, whose entry is e: 9, then 10, then 11; none where e is 0.
-unfoldable pub track_fault_at : Edition → List ℕ → ℕ → ℕ → Refusal
+unfoldable pub track_fault_at : Edition → List ℕ → ℕ → ℕ → Fault
 track_fault_at v b e t =
     refuse_if (eqb e 0) none
     (refuse_if (bad_slot b t) (refusal 9 t)
@@ -86,7 +86,7 @@ track_fault_at v b e t =
     none)))
 
 -- RO-4: track t, by its entry of the table.
-abbrev pub track_fault : Edition → List ℕ → ℕ → Refusal
+abbrev pub track_fault : Edition → List ℕ → ℕ → Fault
 track_fault v b t = track_fault_at v b (track_entry b t) t
 
 -- RO-4: where a walk up to track j ends: there, or with the edition's table.
@@ -94,9 +94,9 @@ abbrev pub walk_end : Edition → ℕ → ℕ
 walk_end v j = cond (leb j (slots v)) j (slots v)
 
 -- RO-4: the tracks from i up to j, which is left out, as far as the edition's table goes: the first faulty one refuses.
-abbrev pub tracks_fault_in : Edition → List ℕ → ℕ → ℕ → Refusal
+abbrev pub tracks_fault_in : Edition → List ℕ → ℕ → ℕ → Fault
 tracks_fault_in v b i j = first_from (track_fault v b) i (walk_end v j - i)
 
 -- RO-4: the tracks of the edition's table from 0 up: the first faulty one refuses.
-abbrev pub tracks_fault : Edition → List ℕ → Refusal
+abbrev pub tracks_fault : Edition → List ℕ → Fault
 tracks_fault v b = first_from (track_fault v b) 0 (slots v)

@@ -10,7 +10,7 @@ use native.Mathlib.Omega.{arith}
 use lib.ListN.{length}
 use lib.Dec.{eqb, leb}
 use borrow.Author.Tests.{leb-false, eqb-false, eq-eqb}
-use Rattle.refusals.specs.declared.Refusal.{Refusal}
+use Rattle.refusals.specs.Refusals.{Fault}
 use Rattle.refusals.specs.Refusals.{none, refusal, passes, refuse_if, first_of}
 use Rattle.scp_fields.specs.declared.Edition.{Edition}
 use Rattle.scp_fields.specs.Editions.{slots}
@@ -51,10 +51,10 @@ stand_on i x = record { numbers = extent i 8; flux = x }
 -- ---- a chain of tests
 
 -- what refuses a call on a revolution of an image that opens: its track is above the last or absent, it is beyond the last, or what comes after
-abbrev chain : Bool → Bool → Bool → Refusal → Refusal
+abbrev chain : Bool → Bool → Bool → Fault → Fault
 chain high absent beyond rest = refuse_if high (refusal 13 0) (refuse_if absent (refusal 13 0) (refuse_if beyond (refusal 14 0) rest))
 
-chain_same : (high absent was beyond : Bool) (r s : Refusal) → (high ≡ false → absent ≡ was)
+chain_same : (high absent was beyond : Bool) (r s : Fault) → (high ≡ false → absent ≡ was)
     → (high ≡ false → was ≡ false → beyond ≡ false → r ≡ s) → chain high absent beyond r ≡ chain high was beyond s
 unfolding refuse_if
 chain_same true absent was beyond r s e h = refl

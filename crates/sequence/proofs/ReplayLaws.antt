@@ -6,7 +6,7 @@ use mathlib.Core.Bool.{true≢false}
 use lib.ListN.{length}
 use borrow.Author.Tests.{le-leb, lt-leb}
 use Rattle.octets.specs.Numbers.{Octets}
-use Rattle.refusals.specs.declared.Refusal.{Refusal}
+use Rattle.refusals.specs.Refusals.{Fault}
 use Rattle.refusals.specs.Refusals.{refusal}
 use Rattle.scp.specs.Answers.{Answer, refused, numbers}
 use Rattle.scp_book.specs.Book.{final_bytes, answers}
@@ -16,11 +16,11 @@ use Rattle.sequence.specs.Replaying.{replay_answer, Replays}
 use Rattle.sequence.proofs.CallLaws.{calls_fit}
 
 module _ (b calls words d : List ℕ) where
-  pub refused_replay : length d < 16 * (length calls / call_size) → {r : Refusal} → r ≡ refusal 15 0
+  pub refused_replay : length d < 16 * (length calls / call_size) → {r : Fault} → r ≡ refusal 15 0
       → (refused r.number r.position ≡ replay_answer calls (length d)) × Replays b calls words d b d
   refused_replay h is =
       let t = lt-leb (16 * (length calls / call_size)) (length d) h in (
-        ap (λ (r : Refusal). refused r.number r.position) is ∙ simp t,
+        ap (λ (r : Fault). refused r.number r.position) is ∙ simp t,
         record { refused = λ e. (refl, refl); done = λ e. absurd (true≢false (sym e ∙ t)) },
       )
 

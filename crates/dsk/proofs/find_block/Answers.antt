@@ -5,7 +5,7 @@ use mathlib.Core.Bool.{false, ◌||◌}
 use native.Mathlib.Omega.{arith}
 use lib.Dec.{leb}
 use borrow.Author.Tests.{leb-false}
-use Rattle.refusals.specs.declared.Refusal.{Refusal}
+use Rattle.refusals.specs.Refusals.{Fault}
 use Rattle.refusals.proofs.Finding.{neither, is_refusal}
 use Rattle.refusals.proofs.Answers.{unless_refused, unless_found}
 use Rattle.dsk_fields.specs.Fields.{tracks as track_count, sides as side_count}
@@ -34,7 +34,7 @@ unfolding found_block
 returns-then-tracks-t c =
     let a = c.args in
     let b = a.image.now in
-    let accepted = ap (λ (f : Refusal). f.number) (sym c.check-refusal.ensures) ∙ c.if-refusal-ne0.false in
+    let accepted = ap (λ (f : Fault). f.number) (sym c.check-refusal.ensures) ∙ c.if-refusal-ne0.false in
     let same : leb c.tracks.result a.track || leb c.sides-sides.result a.side ≡ leb (track_count b) a.track || leb (side_count b) a.side =
     ap₂ (λ (x y : ℕ). leb x a.track || leb y a.side) c.tracks.ensures.0 c.sides-sides.ensures.0 in
     unless_refused _ _ block-place.Refused (c.refuse.ensures ∙ then_absent b a.track a.side _ accepted (sym same ∙ c.if-tracks-t.true)) (is_refusal 12 c.refuse.ensures)
@@ -60,7 +60,7 @@ unfolding found_block
 returns c =
     let a = c.args in
     let b = a.image.now in
-    let accepted = ap (λ (f : Refusal). f.number) (sym c.check-refusal.ensures) ∙ c.if-refusal-ne0.false in
+    let accepted = ap (λ (f : Fault). f.number) (sym c.check-refusal.ensures) ∙ c.if-refusal-ne0.false in
     let same : leb c.tracks.result a.track || leb c.sides-sides.result a.side ≡ leb (track_count b) a.track || leb (side_count b) a.side =
     ap₂ (λ (x y : ℕ). leb x a.track || leb y a.side) c.tracks.ensures.0 c.sides-sides.ensures.0 in
     let here = both_there b a.track a.side accepted (sym same ∙ c.if-tracks-t.false) in

@@ -1,6 +1,6 @@
 -- The header's finding comes first; where it passes the blocks lie in the image.
 use mathlib.Core.Path.{sym, ap, ◌∙◌}
-use Rattle.refusals.specs.declared.Refusal.{Refusal}
+use Rattle.refusals.specs.Refusals.{Fault}
 use Rattle.refusals.proofs.Chain.{first_here, first_next}
 use Rattle.dsk_header.specs.HeaderFault.{head_fault}
 use Rattle.dsk_header.proofs.HeaderLaws.{headed}
@@ -14,7 +14,7 @@ returns-then-first-ne0 c = first_here (head_fault _) (blocks_fault _) c.check_he
 pub blocks_fault-requires : goal.blocks_fault-requires
 blocks_fault-requires c =
     let b = c.args.image.now in
-    let head = headed b (ap (λ (f : Refusal). f.number) (sym c.check_header-first.ensures) ∙ c.if-first-ne0.false) in
+    let head = headed b (ap (λ (f : Fault). f.number) (sym c.check_header-first.ensures) ∙ c.if-first-ne0.false) in
     (head.whole, head.size)
 
 pub returns : goal.returns

@@ -4,7 +4,7 @@ use mathlib.Core.Path.{◌≡◌, ap, ap₂, ◌∙◌}
 use Prim.Native.Nat.{ℕ, ◌+◌, ◌*◌, ◌-◌, ◌<◌}
 use native.Mathlib.Omega.{arith}
 use borrow.Author.Rules.{rules}
-use Rattle.refusals.specs.declared.Refusal.{Refusal}
+use Rattle.refusals.specs.Refusals.{Fault}
 use Rattle.refusals.specs.Search.{first_from}
 use Rattle.refusals.proofs.Loops.{found_here, found_next, found_none}
 use Rattle.dsk_fields.specs.Fields.{sides as side_count, block_of}
@@ -13,7 +13,7 @@ use Rattle.dsk_check.specs.Faults.{block_fault_at, block_fault}
 use Rattle.dsk_check.proofs.track_fault.Goals as goal
 
 -- what refuses the block at an offset and of an index that are those of its side
-block_read : (b : List ℕ) {S at : ℕ} (t s : ℕ) {v : Refusal} → S ≡ side_count b → at ≡ block_of b t s
+block_read : (b : List ℕ) {S at : ℕ} (t s : ℕ) {v : Fault} → S ≡ side_count b → at ≡ block_of b t s
     → v ≡ block_fault_at b at t s (t * S + s) → v ≡ block_fault b t s
 block_read b t s e f q = q ∙ ap₂ (λ (T z : ℕ). block_fault_at b z t s (t * T + s)) e f
 

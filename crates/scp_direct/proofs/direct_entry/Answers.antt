@@ -2,7 +2,7 @@
 use Prim.Native.Nat.{◌+◌, ◌<◌}
 use mathlib.Core.Path.{◌≡◌, refl, sym, ap, ◌∙◌}
 use borrow.Author.Rules.{rules}
-use Rattle.refusals.specs.declared.Refusal.{Refusal}
+use Rattle.refusals.specs.Refusals.{Fault}
 use Rattle.refusals.proofs.Finding.{is_refusal}
 use Rattle.scp_fields.specs.Editions.{slots}
 use Rattle.scp_header.specs.HeaderFault.{header_fault}
@@ -35,4 +35,4 @@ returns c =
     let held = clear in
     let entry = c.track_entry-entry.ensures in
     let asked = by_track _ _ _ held.0 (in_table) (λ z. c.if-entry-eq0.false (entry ∙ z)) refl in
-    entry_found _ _ _ (ap (λ (f : Refusal). f.number) (sym asked) ∙ held.1) entry
+    entry_found _ _ _ (ap (λ (f : Fault). f.number) (sym asked) ∙ held.1) entry

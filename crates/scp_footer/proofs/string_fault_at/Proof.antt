@@ -6,7 +6,7 @@ use borrow.Author.Tests.{eq-eqb, ne_eqb}
 use Rattle.copies.specs.Copying.{part}
 use Rattle.utf8.specs.Table.{well_formed}
 use Rattle.scp_footer.specs.Footer.{bad_string_of, bad_string, string_bytes, bad_text, string_fault_at}
-use Rattle.refusals.specs.declared.Refusal.{Refusal}
+use Rattle.refusals.specs.Refusals.{Fault}
 use Rattle.refusals.specs.Refusals.{none, refusal, refuse_if}
 use Rattle.refusals.proofs.Chain.{refuse_here, refuse_next, turned_off, turned_on}
 use Rattle.scp_footer.proofs.string_fault_at.Statement.{statement}
@@ -56,7 +56,7 @@ told c =
     ∙ ap (λ (n : ℕ). well_formed (part a.image.now (a.o + 2) n)) c.before.before.before.number16-n.ensures.0
 
 -- past 8, what the text decides
-last : (c : tie.After-well_formed_part) {f : Refusal} → let a = c.before.before.before.before.before.before.args in
+last : (c : tie.After-well_formed_part) {f : Fault} → let a = c.before.before.before.before.before.before.args in
     f ≡ refuse_if (bad_text a.image.now a.o) (refusal 19 a.j) none → f ≡ string_fault_at a.edition a.image.now a.o a.j
 unfolding string_fault_at
 last c e =
