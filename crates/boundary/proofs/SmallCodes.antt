@@ -2,8 +2,7 @@
 use Prim.Native.Nat.{ℕ, ◌<◌}
 use mathlib.Core.Bool.{Bool}
 use native.Mathlib.Omega.{arith}
-use Rattle.refusals.specs.Refusals.{Fault}
-use Rattle.refusals.specs.Refusals.{none, refusal, refuse_if, first_of}
+use Rattle.refusals.specs.Refusals.{Fault, none, refusal, refuse_if, first_of}
 use Rattle.refusals.specs.Search.{first_from}
 use Rattle.refusals.proofs.Finding.{Each, holds_if, holds_first, holds_from}
 

@@ -1,8 +1,7 @@
 -- An answer, unless it is refused.
 use mathlib.Core.Path.{◌≡◌, sym, ap, ◌∙◌}
 use borrow.Author.Tests.{eq-eqb, ne_eqb}
-use Rattle.refusals.specs.Refusals.{Fault}
-use Rattle.refusals.specs.Refusals.{unless}
+use Rattle.refusals.specs.Refusals.{Fault, unless}
 
 module _ {A : Type 0} (q : Fault) (found : A) (refused : Fault → A) where
   pub unless_refused : {f : Fault} → f ≡ q → (f.number ≡ 0 → ⊥) → refused f ≡ unless q found refused

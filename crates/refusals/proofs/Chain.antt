@@ -3,8 +3,7 @@
 use mathlib.Core.Path.{◌≡◌, sym, ap, ◌∙◌}
 use mathlib.Core.Bool.{Bool, true, false, not}
 use borrow.Author.Tests.{eq-eqb, ne_eqb}
-use Rattle.refusals.specs.Refusals.{Fault}
-use Rattle.refusals.specs.Refusals.{refuse_if, first_of}
+use Rattle.refusals.specs.Refusals.{Fault, refuse_if, first_of}
 
 pub refuse_here : {r : Fault} (t : Bool) (f rest : Fault) → t ≡ true → r ≡ f → r ≡ refuse_if t f rest
 unfolding refuse_if

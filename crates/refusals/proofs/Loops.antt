@@ -5,8 +5,7 @@ use mathlib.Core.Path.{◌≡◌, refl, sym, ap, ◌∙◌}
 use mathlib.Core.Bool.{Bool, true, false, ◌||◌, or_assoc, or-false}
 use native.Mathlib.Omega.{arith}
 use borrow.Author.Tests.{eq-eqb}
-use Rattle.refusals.specs.Refusals.{Fault}
-use Rattle.refusals.specs.Refusals.{none, refuse_if, first_of}
+use Rattle.refusals.specs.Refusals.{Fault, none, refuse_if, first_of}
 use Rattle.refusals.specs.Search.{any_from, first_from}
 use Rattle.refusals.proofs.Chain.{first_here}
 use Rattle.refusals.proofs.Finding.{neither}

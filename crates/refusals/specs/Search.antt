@@ -1,7 +1,6 @@
 -- Searches over indices, counted upwards (RO-2): the n indices from i on.
 use Rattle.std.specs.Prelude.{ℕ, zero, suc, ◌+◌, List, [], ◌∷◌, Bool, false, ◌||◌}
-use Rattle.refusals.specs.Refusals.{Fault}
-use Rattle.refusals.specs.Refusals.{none, first_of}
+use Rattle.refusals.specs.Refusals.{Fault, none, first_of}
 
 -- RO-2: some of the indices passes the test.
 unfoldable pub any_from : (ℕ → Bool) → ℕ → ℕ → Bool

@@ -8,8 +8,7 @@ use native.Mathlib.Omega.{arith}
 use lib.ListN.{length}
 use lib.Dec.{eqb, leb}
 use borrow.Author.Tests.{eq-eqb, ne_eqb, eqb-true, eqb-false, le-leb, lt-leb, leb-true, leb-false}
-use Rattle.refusals.specs.Refusals.{Fault}
-use Rattle.refusals.specs.Refusals.{none, refusal, passes, refuse_if, first_of}
+use Rattle.refusals.specs.Refusals.{Fault, none, refusal, passes, refuse_if, first_of}
 use Rattle.refusals.specs.Search.{first_from}
 use Rattle.refusals.proofs.Answers.{unless_refused, unless_found}
 use Rattle.refusals.proofs.Chain.{refuse_here, refuse_next, first_here, first_next}

@@ -1,8 +1,7 @@
 -- The direct calls: what refuses them, in its order (DI-1, DI-2), and what they answer (DI-3 to DI-5). They look at the header, one entry of the
 -- table, that track's header and the records of its revolutions.
 use Rattle.std.specs.Prelude.{ℕ, List}
-use Rattle.refusals.specs.Refusals.{Fault}
-use Rattle.refusals.specs.Refusals.{first_of}
+use Rattle.refusals.specs.Refusals.{Fault, first_of}
 use Rattle.refusals.specs.Refusals as refusals
 use Rattle.scp_fields.specs.declared.Edition.{Edition}
 use Rattle.scp_fields.specs.Header.{track_entry}

@@ -23,26 +23,31 @@ ghost use Rattle.scp_fields.specs.Footer.{footer_at, string_entry, footer_least}
 // ---- editions
 
 // The edition by which an image is read: revision 1.4 or 1.6 of the format (V-1).
-#[derive(Clone, Copy)]
+#[derive(Clone, Copy, Debug, PartialEq, Eq)]
 pub enum Edition {
     V1_4,
     V1_6,
 }
 
-// The number that names revision 1.4; any other names 1.6.
+// The number that names revolution 1.4; any other names 1.6.
 const NUMBER_OF_1_4: u64 = 14;
 
 // The edition that a number names.
-pub fn edition_of(number: u64) -> Edition
-    ensures { result ≡ edition_of number }
-{
-    if number == NUMBER_OF_1_4 {
-        return Edition::V1_4;
+impl From<u64> for Edition {
+    ghost from_gives = { λ number edition. edition ≡ edition_of number };
+
+    #[tactic(auto, unfolding(crate::specs::Editions::edition_of))]
+    fn from(number: u64) -> Edition {
+        if number == NUMBER_OF_1_4 {
+            Edition::V1_4
+        } else {
+            Edition::V1_6
+        }
     }
-    Edition::V1_6
 }
 
 // How many entries the table of an edition has.
+#[tactic(auto, unfolding(crate::specs::Editions::slots))]
 pub fn slots(edition: Edition) -> usize
     ensures { (result ≡ slots edition) × (166 ≤ result) × (result ≤ 168) }
 {
@@ -115,33 +120,27 @@ pub const FORMAT_AT: usize = 43;
 
 pub const FOOTER_MARK_AT: usize = 44;
 
-fn wide(x: u8) -> usize
-    ensures { (result ≡ x) × (result < 256) }
-{
-    x as usize
-}
-
 // ---- the header
 
 // How many revolutions each track has.
 pub fn revolutions(image: &[u8]) -> usize
     ensures { (result ≡ revolutions image.now) × (result < 256) }
 {
-    wide(octets::byte(image, REVOLUTIONS_AT))
+    usize::from(octets::byte(image, REVOLUTIONS_AT))
 }
 
 // The first track of the span.
 pub fn start_track(image: &[u8]) -> usize
     ensures { (result ≡ start_track image.now) × (result < 256) }
 {
-    wide(octets::byte(image, START_AT))
+    usize::from(octets::byte(image, START_AT))
 }
 
 // The last track of the span.
 pub fn end_track(image: &[u8]) -> usize
     ensures { (result ≡ end_track image.now) × (result < 256) }
 {
-    wide(octets::byte(image, END_AT))
+    usize::from(octets::byte(image, END_AT))
 }
 
 // The flags.
@@ -159,12 +158,13 @@ pub fn is_read_write(image: &[u8]) -> bool
 }
 
 // FLAGS bit 5, or 0 by an edition to which it means nothing.
+#[tactic(auto, unfolding(crate::specs::Header::footer_bit, crate::specs::Editions::footers))]
 fn footer_bit(image: &[u8], edition: Edition) -> usize
     ensures { (result ≡ footer_bit edition image.now) × (result < 2) }
 {
     match edition {
         Edition::V1_4 => 0,
-        Edition::V1_6 => wide(flags(image) / 32 % 2),
+        Edition::V1_6 => usize::from(flags(image) / 32 % 2),
     }
 }
 

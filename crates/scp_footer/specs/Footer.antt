@@ -1,8 +1,7 @@
 -- The footer and its strings (L-21 to L-24), and refusals 7, 8 and 19.
 use Rattle.std.specs.Prelude.{ℕ, ◌+◌, List, Bool, not, ◌&&◌, ◌||◌, length, eqb, ltb}
-use Rattle.refusals.specs.Refusals.{Fault}
 use Rattle.octets.specs.Numbers.{byte_at, le16_at}
-use Rattle.refusals.specs.Refusals.{none, refusal, refuse_if}
+use Rattle.refusals.specs.Refusals.{Fault, none, refusal, refuse_if}
 use Rattle.refusals.specs.Search.{any_from, first_from}
 use Rattle.copies.specs.Copying.{part}
 use Rattle.utf8.specs.Table.{well_formed}

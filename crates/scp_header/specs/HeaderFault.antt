@@ -1,7 +1,6 @@
 -- Refusals 1 to 6 in their order (RO-3).
 use Rattle.std.specs.Prelude.{ℕ, List}
-use Rattle.refusals.specs.Refusals.{Fault}
-use Rattle.refusals.specs.Refusals.{none, refusal, refuse_if}
+use Rattle.refusals.specs.Refusals.{Fault, none, refusal, refuse_if}
 use Rattle.scp_header.specs.HeaderTests.{bad_size, bad_sign, bad_width, bad_revolutions, bad_span, bad_heads}
 use Rattle.scp_fields.specs.declared.Edition.{Edition}
 

@@ -1,14 +1,23 @@
 // The header of a SuperCard Pro image, by any edition: refusals 1 to 6.
 #![tactic(auto)]
 
-ghost use Rattle.std.specs.Prelude.{◌≡◌, ◌≤◌, length};
-ghost use Rattle.scp_header.specs.HeaderTests.{bad_sign, bad_width, bad_revolutions, bad_span, bad_heads};
+ghost use Rattle.std.specs.Prelude.{◌≡◌, ◌≤◌, length, false};
+ghost use Rattle.refusals.specs.Refusals.{fault_of};
+ghost use Rattle.scp_header.specs.HeaderTests.{bad_size, bad_sign, bad_width, bad_revolutions, bad_span, bad_heads};
 ghost use Rattle.scp_header.specs.HeaderFault.{header_fault};
 
-use refusals::Refusal;
+use refusals::{Reason, Refusal};
 use scp_fields::Edition;
 
 // ---- the header: refusals 1 to 6
+
+#[tactic(auto, unfolding(crate::specs::HeaderTests::bad_size))]
+fn bad_size(image: &[u8], edition: Edition) -> bool
+    ensures value { result ≡ bad_size edition image.now }
+    ensures sized { result ≡ false → 3 ≤ length image.now }
+{
+    (image.len() < scp_fields::table_end(edition)) | (scp_fields::SIZE_LIMIT < image.len())
+}
 
 fn bad_sign(image: &[u8]) -> bool
     requires { 3 ≤ length image.now }
@@ -46,31 +55,27 @@ fn bad_heads(image: &[u8]) -> bool
     2 < scp_fields::heads(image)
 }
 
-// What refuses the header: the first of refusals 1 to 6, or number 0. It looks at the header and the length alone.
-pub fn header_fault(image: &[u8], edition: Edition) -> Refusal
-    ensures { result ≡ header_fault edition image.now }
+// What refuses the header: the first of refusals 1 to 6. It looks at the header and the length alone.
+pub fn header_fault(image: &[u8], edition: Edition) -> Result<(), Refusal>
+    ensures { fault_of result ≡ header_fault edition image.now }
 {
-    let n = image.len();
-    if n < scp_fields::table_end(edition) {
-        return refusals::refuse(refusals::SIZE, 0);
-    }
-    if scp_fields::SIZE_LIMIT < n {
-        return refusals::refuse(refusals::SIZE, 0);
+    if bad_size(image, edition) {
+        return Err(Reason::Size.at(0));
     }
     if bad_sign(image) {
-        return refusals::refuse(refusals::SIGN, 0);
+        return Err(Reason::Sign.at(0));
     }
     if bad_width(image) {
-        return refusals::refuse(refusals::WIDTH, 0);
+        return Err(Reason::Width.at(0));
     }
     if bad_revolutions(image) {
-        return refusals::refuse(refusals::REVOLUTIONS, 0);
+        return Err(Reason::Revolutions.at(0));
     }
     if bad_span(image, edition) {
-        return refusals::refuse(refusals::SPAN, 0);
+        return Err(Reason::Span.at(0));
     }
     if bad_heads(image) {
-        return refusals::refuse(refusals::HEADS, 0);
+        return Err(Reason::Heads.at(0));
     }
-    refusals::pass()
+    Ok(())
 }

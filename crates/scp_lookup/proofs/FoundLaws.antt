@@ -8,8 +8,7 @@ use native.Mathlib.Omega.{arith}
 use lib.ListN.{length}
 use lib.Dec.{eqb, leb, ltb}
 use borrow.Author.Tests.{eq-eqb, ne_eqb, eqb-true, eqb-false, le-leb, lt-leb, leb-false}
-use Rattle.refusals.specs.Refusals.{Fault}
-use Rattle.refusals.specs.Refusals.{none, refusal, passes, refuse_if, first_of, unless}
+use Rattle.refusals.specs.Refusals.{Fault, none, refusal, passes, refuse_if, first_of, unless}
 use Rattle.scp_fields.specs.declared.Edition.{Edition}
 use Rattle.scp_fields.specs.Editions.{slots}
 use Rattle.scp_fields.specs.Header.{revolutions, track_entry}

@@ -1,7 +1,6 @@
 -- What refuses a call on a track or a revolution, in its order: 1 to 11 and 19, then 13, then 14 (RO-6).
 use Rattle.std.specs.Prelude.{ℕ, List, eqb, leb}
-use Rattle.refusals.specs.Refusals.{Fault}
-use Rattle.refusals.specs.Refusals.{none, refusal, refuse_if, first_of}
+use Rattle.refusals.specs.Refusals.{Fault, none, refusal, refuse_if, first_of}
 use Rattle.scp_fields.specs.declared.Edition.{Edition}
 use Rattle.scp_fields.specs.Editions.{slots}
 use Rattle.scp_fields.specs.Header.{revolutions, track_entry}

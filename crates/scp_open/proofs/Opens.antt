@@ -9,9 +9,8 @@ use native.Mathlib.Omega.{arith}
 use lib.ListN.{length}
 use lib.Dec.{eqb, ltb}
 use borrow.Author.Tests.{ltb-false, le-ltb, eqb-true, eqb-false, eq-eqb, ne_eqb, not-false}
-use Rattle.refusals.specs.Refusals.{Fault}
 use Rattle.octets.specs.Numbers.{byte_at, le16_at}
-use Rattle.refusals.specs.Refusals.{none}
+use Rattle.refusals.specs.Refusals.{Fault, none}
 use Rattle.scp_fields.specs.declared.Edition.{Edition}
 use Rattle.scp_fields.specs.Editions.{slots, last_track, table_end}
 use Rattle.scp_fields.specs.Header.{size_limit, revolutions, start_track, end_track, read_write, has_footer, width, heads, track_entry, data_end}

@@ -1,7 +1,6 @@
 -- Opening: refusals 1 to 11 and 19 in their order (RO-3, RO-4), and the opened image (T-1).
 use Rattle.std.specs.Prelude.{ℕ, List, Bool, cond, replicate}
-use Rattle.refusals.specs.Refusals.{Fault}
-use Rattle.refusals.specs.Refusals.{none, passes, first_of}
+use Rattle.refusals.specs.Refusals.{Fault, none, passes, first_of}
 use Rattle.scp_fields.specs.declared.Edition.{Edition}
 use Rattle.scp_fields.specs.Header.{track_slots, version, disk, revolutions, start_track, end_track, flags, width, heads, stored_sum, entries}
 use Rattle.scp_header.specs.HeaderFault.{header_fault}

@@ -6,8 +6,7 @@ use mathlib.Core.Bool.{Bool, true, false, cond}
 use native.Mathlib.Omega.{arith}
 use lib.ListN.{length}
 use borrow.Author.Tests.{ne_eqb, le-ltb}
-use Rattle.refusals.specs.Refusals.{Fault}
-use Rattle.refusals.specs.Refusals.{refusal}
+use Rattle.refusals.specs.Refusals.{Fault, refusal}
 use Rattle.flux.specs.Coding.{bad_flux_size, flux_limit}
 use Rattle.flux.specs.Answers.{Answer, refused, gives, words_refused}
 use Rattle.flux_summary.specs.declared.Summary.{Summary}

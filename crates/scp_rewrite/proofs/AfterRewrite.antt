@@ -2,8 +2,7 @@
 -- sets and what it keeps.
 use Rattle.std.proofs.Common.{◌≡◌, ℕ, ◌<◌, ◌≤◌, Bool, true, false, cond, ◌&&◌, eqb, ◌≢◌, ◌⊎◌, ◌↔◌, List, length, refl, ap, ◌∙◌, inl, inr, arith}
 use Rattle.octets.specs.Numbers.{byte_at, Octets}
-use Rattle.refusals.specs.Refusals.{Fault}
-use Rattle.refusals.specs.Refusals.{none, refusal, passes, refuse_if}
+use Rattle.refusals.specs.Refusals.{Fault, none, refusal, passes, refuse_if}
 use Rattle.scp_fields.specs.declared.Edition.{Edition}
 use Rattle.scp_fields.specs.Editions.{slots}
 use Rattle.scp_fields.specs.Header.{checksum_at, revolutions, end_track, track_entry}

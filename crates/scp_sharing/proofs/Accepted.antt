@@ -8,8 +8,7 @@ use native.Mathlib.Omega.{arith}
 use lib.ListN.{length}
 use lib.Dec.{eqb}
 use borrow.Author.Tests.{ltb-false, eqb-true, eqb-false}
-use Rattle.refusals.specs.Refusals.{Fault}
-use Rattle.refusals.specs.Refusals.{none, refusal, passes, refuse_if}
+use Rattle.refusals.specs.Refusals.{Fault, none, refusal, passes, refuse_if}
 use Rattle.refusals.proofs.Finding.{neither, not_refused}
 use Rattle.flux.specs.Coding.{flux_limit, bad_flux_size}
 use Rattle.scp_fields.specs.declared.Edition.{Edition}

@@ -1,7 +1,6 @@
 -- What refuses a rewrite (R-17, R-18, W-7).
 use Rattle.std.specs.Prelude.{ℕ, ◌*◌, List, Bool, ◌||◌, length, ltb}
-use Rattle.refusals.specs.Refusals.{Fault}
-use Rattle.refusals.specs.Refusals.{none, refusal, refuse_if}
+use Rattle.refusals.specs.Refusals.{Fault, none, refusal, refuse_if}
 use Rattle.flux.specs.Coding.{bad_flux_size}
 use Rattle.scp_fields.specs.declared.Edition.{Edition}
 use Rattle.scp_fields.specs.Header.{track_entry}

@@ -9,8 +9,7 @@ use native.Mathlib.Omega.{arith}
 use lib.ListN.{length}
 use lib.Dec.{eqb, leb}
 use borrow.Author.Tests.{leb-false}
-use Rattle.refusals.specs.Refusals.{Fault}
-use Rattle.refusals.specs.Refusals.{none, refusal, passes, refuse_if, first_of}
+use Rattle.refusals.specs.Refusals.{Fault, none, refusal, passes, refuse_if, first_of}
 use Rattle.refusals.specs.Refusals as refusals
 use Rattle.refusals.proofs.Chain.{first_next}
 use Rattle.refusals.proofs.Finding.{both_clear, from_clear, holds_if, holds_first}

@@ -12,8 +12,7 @@ use lib.Dec.{eqb, leb}
 use borrow.Author.Tests.{eqb-true, eqb-false, leb-false}
 use Rattle.octets.specs.Numbers.{byte_at, le32_at}
 use Rattle.octets.proofs.Numbers.{le_same}
-use Rattle.refusals.specs.Refusals.{Fault}
-use Rattle.refusals.specs.Refusals.{refusal, passes, refuse_if, first_of}
+use Rattle.refusals.specs.Refusals.{Fault, refusal, passes, refuse_if, first_of}
 use Rattle.refusals.specs.Search.{any_from}
 use Rattle.refusals.proofs.Answers.{unless_refused}
 use Rattle.refusals.proofs.Chain.{refuse_here, refuse_next}

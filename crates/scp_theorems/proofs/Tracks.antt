@@ -9,8 +9,7 @@ use mathlib.Core.Bool.{Bool, true, false, cond}
 use native.Mathlib.Omega.{arith}
 use lib.ListN.{length}
 use borrow.Author.Tests.{eqb-true, ne_eqb, le-ltb}
-use Rattle.refusals.specs.Refusals.{Fault}
-use Rattle.refusals.specs.Refusals.{none, passes}
+use Rattle.refusals.specs.Refusals.{Fault, none, passes}
 use Rattle.flux.proofs.AnswerLaws.{places_only}
 use Rattle.flux_theorems.proofs.Closing.{two_lists}
 use Rattle.flux.specs.Coding.{words_of, bad_flux_size, flux_limit}

@@ -4,8 +4,7 @@ use mathlib.Core.Path.{◌≡◌, refl, sym, ap, ◌∙◌}
 use mathlib.Core.List.{List}
 use mathlib.Core.Bool.{Bool, true, false, cond}
 use borrow.Author.Tests.{eqb-true, not-false}
-use Rattle.refusals.specs.Refusals.{Fault}
-use Rattle.refusals.specs.Refusals.{none}
+use Rattle.refusals.specs.Refusals.{Fault, none}
 use Rattle.refusals.proofs.Finding.{Clear, both_clear, not_refused, clear_first, clear_refuse}
 use Rattle.scp_fields.specs.declared.Edition.{Edition}
 use Rattle.scp_fields.specs.Header.{read_write, stored_sum, true_sum}

@@ -4,8 +4,7 @@ use Rattle.std.specs.Float.{binary64}
 use Rattle.std.specs.Float.Ieee.{of_int, to_unsigned, round, le}
 use Rattle.std.specs.Float.Ieee.Exact.{HasValue}
 use Rattle.octets.specs.Numbers.{Octets}
-use Rattle.refusals.specs.Refusals.{Fault}
-use Rattle.refusals.specs.Refusals.{none}
+use Rattle.refusals.specs.Refusals.{Fault, none}
 use Rattle.flux.specs.Coding.{words_of}
 use Rattle.flux.specs.Reading.{intervals, closing_numbers}
 use Rattle.flux.specs.Answers.{places_refused, words_refused, refuses, answer_of}

@@ -5,18 +5,16 @@ use mathlib.Core.List.{List}
 use mathlib.Core.Bool.{Bool, true, false, or-true}
 use native.Mathlib.Omega.{arith}
 use lib.Dec.{ltb}
-use borrow.Author.Tests.{ltb-true, ltb-false, lt-ltb, le-ltb, le-leb, lt-leb}
-use Rattle.refusals.specs.Refusals.{refuse_if}
+use borrow.Author.Tests.{ltb-true, ltb-false, lt-ltb, le-ltb, le-leb}
 use Rattle.refusals.specs.Search.{any_from}
 use Rattle.scp_fields.specs.declared.Edition.{Edition}
 use Rattle.scp_fields.specs.Editions.{table_end}
 use Rattle.scp_fields.specs.Header.{revolutions, data_end}
 use Rattle.refusals.proofs.Finding.{neither}
 use Rattle.scp_tracks.specs.Tracks.{offset_of, header_size, bad_mark, bad_track, flux_past, bad_flux}
-use Rattle.scp_tracks.specs.Revolutions.{record_of, data_of, revolution_of, of_presence, revolution_fault}
+use Rattle.scp_tracks.specs.Revolutions.{record_of}
 use Rattle.scp_tracks.specs.declared.FileOffset.{FileOffset}
 use Rattle.scp_tracks.specs.declared.RevolutionData.{RevolutionData}
-use Rattle.scp_tracks.specs.declared.Revolution.TheVariants.{Absent, Present}
 
 -- a revolution's numbers, one by one
 pub data_is : {d d' w w' : ℕ} {p : FileOffset} {n : ℕ} → d ≡ d' → w ≡ w' → p.0 ≡ n
@@ -25,19 +23,9 @@ data_is {d} {d'} {w} {w'} {p} {n} e f g =
     let q : p ≡ record { 0 = n } = ap (λ (x : ℕ). record { 0 = x }) g in
     cc
 
--- revolution k is absent or present, and so refused or not
 -- records with equal numbers
 pub record_same : (e : ℕ) {d d' w w' by by' : ℕ} → d ≡ d' → w ≡ w' → by ≡ by' → record_of e d w by ≡ record_of e d' w' by'
 record_same e f g h = data_is f g (ap (λ (x : ℕ). e + x) h)
-
-module _ (b : List ℕ) (e k : ℕ) where
-  pub absent : revolutions b ≤ k → (Absent ≡ revolution_of b e k) × (of_presence Absent ≡ revolution_fault b k)
-  unfolding revolution_of refuse_if
-  absent h = (sym (simp (le-ltb k (revolutions b) h)), sym (simp (le-leb (revolutions b) k h)))
-
-  pub present : {d : RevolutionData} → d ≡ data_of b e k → k < revolutions b → (Present d ≡ revolution_of b e k) × (of_presence (Present d) ≡ revolution_fault b k)
-  unfolding revolution_of refuse_if
-  present q h = (ap Present q ∙ sym (simp (lt-ltb k (revolutions b) h)), sym (simp (lt-leb (revolutions b) k h)))
 
 -- ---- a track data header at e, of track t
 

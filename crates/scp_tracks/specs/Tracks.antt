@@ -1,8 +1,7 @@
 -- Tracks, revolutions and their flux (L-13 to L-16, L-18), and refusals 9 to 11.
 use Rattle.std.specs.Prelude.{ℕ, ◌+◌, ◌-◌, ◌*◌, ◌/◌, ◌%◌, List, Bool, not, ◌&&◌, ◌||◌, cond, eqb, ltb, leb}
-use Rattle.refusals.specs.Refusals.{Fault}
 use Rattle.octets.specs.Numbers.{byte_at, le32_at}
-use Rattle.refusals.specs.Refusals.{none, refusal, refuse_if}
+use Rattle.refusals.specs.Refusals.{Fault, none, refusal, refuse_if}
 use Rattle.refusals.specs.Search.{any_from, first_from}
 use Rattle.scp_fields.specs.declared.Edition.{Edition}
 use Rattle.scp_fields.specs.Editions.{slots, table_end}

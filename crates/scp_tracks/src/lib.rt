@@ -4,7 +4,7 @@
 #![tactic(auto)]
 
 ghost use Rattle.std.specs.Prelude.{◌≡◌, ◌+◌, ◌<◌, ◌≤◌, length};
-ghost use Rattle.octets.specs.Numbers.{le32_at};
+ghost use Rattle.refusals.specs.Refusals.{fault_of};
 ghost use Rattle.scp_fields.specs.Header.{data_end};
 ghost use Rattle.scp_tracks.specs.Tracks.{
   cylinder_of,
@@ -22,30 +22,24 @@ ghost use Rattle.scp_tracks.specs.Tracks.{
 };
 ghost use Rattle.scp_tracks.specs.Revolutions.{record_of, data_of, revolution_of, of_presence, revolution_fault};
 
-use refusals::Refusal;
+use refusals::{Reason, Refusal};
 use scp_fields::Edition;
 
 // ---- offsets
 
 // A file offset (L-16).
-#[derive(Clone, Copy)]
+#[derive(Clone, Copy, Debug, PartialEq, Eq)]
 pub struct FileOffset(pub u64);
 
 // A distance from a track data header (L-16).
-#[derive(Clone, Copy)]
+#[derive(Clone, Copy, Debug, PartialEq, Eq)]
 pub struct HeaderOffset(pub u32);
 
 // Where a distance from the track data header at `header` lies in the file: the exact sum, or the largest number where 64 bits do not hold it.
 pub fn file_offset(header: FileOffset, distance: HeaderOffset) -> FileOffset
     ensures { result.0 ≡ offset_of header.0 distance.0 }
 {
-    let from = header.0;
-    let by = distance.0 as u64;
-    if from <= u64::MAX - by {
-        FileOffset(from + by)
-    } else {
-        FileOffset(u64::MAX)
-    }
+    FileOffset(header.0.saturating_add(u64::from(distance.0)))
 }
 
 // The cylinder of a track number.
@@ -84,35 +78,18 @@ pub fn header_size(image: &[u8]) -> usize
 }
 
 // A revolution's numbers: its duration in ticks of 25 ns, its count of flux words, and where its flux starts.
-#[derive(Clone, Copy)]
+#[derive(Clone, Copy, Debug, PartialEq, Eq)]
 pub struct RevolutionData {
     pub duration: u32,
     pub words: u32,
     pub offset: FileOffset,
 }
 
-fn wide(x: u8) -> u32
-    ensures { (result ≡ x) × (result < 256) }
-{
-    x as u32
-}
-
-// The 32-bit number at an offset, where its four bytes are all there.
-fn inner32(image: &[u8], at: usize) -> u32
-    requires { at + 4 ≤ length image.now }
-    ensures { result ≡ le32_at image.now at }
-{
-    wide(image[at])
-        + 256 * wide(image[at + 1])
-        + 65_536 * wide(image[at + 2])
-        + 16_777_216 * wide(image[at + 3])
-}
-
 // The numbers of a record of the track data header at `header`.
 fn record_of(header: u32, duration: u32, words: u32, distance: u32) -> RevolutionData
     ensures { (result ≡ record_of header duration words distance) × (result.offset.0 < 8_589_934_592) }
 {
-    let offset = file_offset(FileOffset(header as u64), HeaderOffset(distance));
+    let offset = file_offset(FileOffset(u64::from(header)), HeaderOffset(distance));
     RevolutionData {
         duration,
         words,
@@ -132,21 +109,15 @@ pub fn revolution_data(image: &[u8], header: u32, k: u32) -> RevolutionData
     record_of(header, duration, words, distance)
 }
 
-// A revolution of a track: absent, or present with its numbers (T-6).
-#[derive(Clone, Copy)]
-pub enum Revolution {
-    Absent,
-    Present(RevolutionData),
-}
-
-// Revolution k of the track data header at `header`: absent where the image has no more revolutions.
-pub fn revolution_at(image: &[u8], header: u32, k: u32) -> Revolution
+// Revolution k of the track data header at `header`: none where the image has no more revolutions (T-6).
+#[tactic(auto, unfolding(crate::specs::Revolutions::revolution_of, refusals::specs::Refusals::refuse_if))]
+pub fn revolution_at(image: &[u8], header: u32, k: u32) -> Option<RevolutionData>
     ensures { (result ≡ revolution_of image.now header k) × (of_presence result ≡ revolution_fault image.now k) }
 {
     if scp_fields::revolutions(image) <= k as usize {
-        return Revolution::Absent;
+        return None;
     }
-    Revolution::Present(revolution_data(image, header, k))
+    Some(revolution_data(image, header, k))
 }
 
 // ---- refusals 9 to 11
@@ -168,7 +139,7 @@ fn bad_mark(image: &[u8], e: usize, t: u32) -> bool
     ensures { result ≡ bad_mark image.now e t }
 {
     !((image[e] == b'T')
-        & ((image[e + 1] == b'R') & ((image[e + 2] == b'K') & (wide(image[e + 3]) == t))))
+        & ((image[e + 1] == b'R') & ((image[e + 2] == b'K') & (u32::from(image[e + 3]) == t))))
 }
 
 // Whether the track data header at e is misplaced, without its mark or of another number.
@@ -187,51 +158,44 @@ fn bad_track(image: &[u8], edition: Edition, e: usize, t: u32) -> bool
 
 // Whether the flux of revolution k of the track data header at e ends more than `room` bytes behind e.
 fn flux_past(image: &[u8], e: u32, k: u32, room: u64) -> bool
-    requires { revolution_at e k + 12 ≤ length image.now }
     ensures { result ≡ flux_past (e + room) image.now e k }
 {
     let at = e as usize + record_offset(k);
-    let words = inner32(image, at + 4);
-    let distance = inner32(image, at + 8);
-    room < (distance as u64) + 2 * (words as u64)
+    let words = octets::le32(image, at + 4);
+    let distance = octets::le32(image, at + 8);
+    room < u64::from(distance) + 2 * u64::from(words)
 }
 
-// Whether the flux of a revolution of the track data header at e ends past the data. Two revolutions are tested at a time, against the bytes
-// from e to the end of the data.
+// Whether the flux of a revolution of the track data header at e ends past the data.
 fn bad_flux(image: &[u8], edition: Edition, e: u32) -> bool
     requires { e + header_size image.now ≤ data_end edition image.now }
     ensures { result ≡ bad_flux edition image.now e }
 {
-    let n = scp_fields::revolutions(image) as u32;
+    let revolutions = scp_fields::revolutions(image) as u32;
     let room = (scp_fields::data_end(image, edition) - e as usize) as u64;
-    let mut k: u32 = 0;
-    while k + 1 < n {
-        if flux_past(image, e, k, room) | flux_past(image, e, k + 1, room) {
+    for k in 0..revolutions {
+        if flux_past(image, e, k, room) {
             return true;
         }
-        k += 2;
-    }
-    if k < n {
-        return flux_past(image, e, k, room);
     }
     false
 }
 
 // What refuses track t, by its entry of the table: 9, then 10, then 11; nothing where the entry is 0.
-pub fn track_fault(image: &[u8], edition: Edition, entry: u32, t: u32) -> Refusal
-    ensures { result ≡ track_fault_at edition image.now entry t }
+pub fn track_fault(image: &[u8], edition: Edition, entry: u32, t: u32) -> Result<(), Refusal>
+    ensures { fault_of result ≡ track_fault_at edition image.now entry t }
 {
     if entry == 0 {
-        return refusals::pass();
+        return Ok(());
     }
     if bad_slot(image, t) {
-        return refusals::refuse(refusals::SLOT, t as u64);
+        return Err(Reason::Slot.at(u64::from(t)));
     }
     if bad_track(image, edition, entry as usize, t) {
-        return refusals::refuse(refusals::TRACK, t as u64);
+        return Err(Reason::Track.at(u64::from(t)));
     }
     if bad_flux(image, edition, entry) {
-        return refusals::refuse(refusals::FLUX, t as u64);
+        return Err(Reason::Flux.at(u64::from(t)));
     }
-    refusals::pass()
+    Ok(())
 }

@@ -6,8 +6,7 @@ use borrow.Author.Tests.{eq-eqb, ne_eqb}
 use Rattle.copies.specs.Copying.{part}
 use Rattle.utf8.specs.Table.{well_formed}
 use Rattle.scp_footer.specs.Footer.{bad_string_of, bad_string, string_bytes, bad_text, string_fault_at}
-use Rattle.refusals.specs.Refusals.{Fault}
-use Rattle.refusals.specs.Refusals.{none, refusal, refuse_if}
+use Rattle.refusals.specs.Refusals.{Fault, none, refusal, refuse_if}
 use Rattle.refusals.proofs.Chain.{refuse_here, refuse_next, turned_off, turned_on}
 use Rattle.scp_footer.proofs.string_fault_at.Statement.{statement}
 use Rattle.scp_footer.proofs.string_fault_at.Tie as tie

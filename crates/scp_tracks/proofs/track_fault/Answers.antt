@@ -1,27 +1,28 @@
 -- Each return meets the tests before it, in the definition's order; each test is followed on by one law.
-use mathlib.Core.Path.{sym, ◌∙◌}
+use mathlib.Core.Path.{refl, sym, ap, ◌∙◌}
 use borrow.Author.Tests.{eq-eqb, ne_eqb}
 use Rattle.scp_tracks.specs.Tracks.{track_fault_at}
 use Rattle.scp_tracks.proofs.RevolutionLaws.{track_inside}
+use Rattle.refusals.specs.Refusals.{refusal, in_table}
 use Rattle.refusals.proofs.Chain.{refuse_here, refuse_next}
 use Rattle.scp_tracks.proofs.track_fault.Goals as goal
 
 pub returns-then-entry-eq0 : goal.returns-then-entry-eq0
 unfolding track_fault_at
-returns-then-entry-eq0 c = refuse_here _ _ _ (eq-eqb _ _ c.if-entry-eq0.true) c.pass.ensures
+returns-then-entry-eq0 c = refuse_here _ _ _ (eq-eqb _ _ c.if-entry-eq0.true) refl
 
 pub returns-then-bad_slot : goal.returns-then-bad_slot
 unfolding track_fault_at
 returns-then-bad_slot c =
     refuse_next _ _ _ (ne_eqb _ _ c.if-entry-eq0.false)
-    (refuse_here _ _ _ (sym c.bad_slot.ensures ∙ c.if-bad_slot.true) c.refuse.ensures)
+    (refuse_here _ _ _ (sym c.bad_slot.ensures ∙ c.if-bad_slot.true) (ap in_table c.at.ensures ∙ ap (refusal 9) c.from.ensures))
 
 pub returns-then-bad_track : goal.returns-then-bad_track
 unfolding track_fault_at
 returns-then-bad_track c =
     refuse_next _ _ _ (ne_eqb _ _ c.if-entry-eq0.false)
     (refuse_next _ _ _ (sym c.bad_slot.ensures ∙ c.if-bad_slot.false)
-    (refuse_here _ _ _ (sym c.bad_track.ensures ∙ c.if-bad_track.true) c.refuse-then-bad_track.ensures))
+    (refuse_here _ _ _ (sym c.bad_track.ensures ∙ c.if-bad_track.true) (ap in_table c.at-then-bad_track.ensures ∙ ap (refusal 10) c.from-then-bad_track.ensures)))
 
 pub bad_flux-requires : goal.bad_flux-requires
 bad_flux-requires c =
@@ -33,7 +34,7 @@ returns-then-bad_flux c =
     refuse_next _ _ _ (ne_eqb _ _ c.if-entry-eq0.false)
     (refuse_next _ _ _ (sym c.bad_slot.ensures ∙ c.if-bad_slot.false)
     (refuse_next _ _ _ (sym c.bad_track.ensures ∙ c.if-bad_track.false)
-    (refuse_here _ _ _ (sym c.bad_flux.ensures ∙ c.if-bad_flux.true) c.refuse-then-bad_flux.ensures)))
+    (refuse_here _ _ _ (sym c.bad_flux.ensures ∙ c.if-bad_flux.true) (ap in_table c.at-then-bad_flux.ensures ∙ ap (refusal 11) c.from-then-bad_flux.ensures))))
 
 pub returns : goal.returns
 unfolding track_fault_at
@@ -41,4 +42,4 @@ returns c =
     refuse_next _ _ _ (ne_eqb _ _ c.if-entry-eq0.false)
     (refuse_next _ _ _ (sym c.bad_slot.ensures ∙ c.if-bad_slot.false)
     (refuse_next _ _ _ (sym c.bad_track.ensures ∙ c.if-bad_track.false)
-    (refuse_next _ _ _ (sym c.bad_flux.ensures ∙ c.if-bad_flux.false) c.pass-2.ensures)))
+    (refuse_next _ _ _ (sym c.bad_flux.ensures ∙ c.if-bad_flux.false) refl)))

@@ -1,4 +1,0 @@
-use Rattle.scp_fields.proofs.string_entry.Goals as goal
-
-pub returns : goal.returns
-returns c = cc

@@ -1,4 +1,0 @@
-use Rattle.scp_header.proofs.bad_width.Goals as goal
-
-pub returns : goal.returns
-returns c = cc
