@@ -1,15 +1,30 @@
--- What makes a string of n bytes at offset o bad, by the first test that it fails.
-use Prim.Native.Nat.{ℕ, ◌+◌, ◌<◌, ◌≤◌}
-use mathlib.Core.Path.{◌≡◌, sym}
-use mathlib.Core.List.{List}
+-- Whether a part holds a zero byte, and what makes a string of n bytes at offset o bad, by the first test that it fails.
+use Prim.Native.Nat.{ℕ, zero, suc, ◌+◌, ◌<◌, ◌≤◌}
+use mathlib.Core.Path.{◌≡◌, refl, sym, ap, ◌∙◌}
+use mathlib.Core.List.{List, ◌∷◌}
 use mathlib.Core.Bool.{Bool, true, not, ◌||◌, or-true}
+use native.Mathlib.Omega.{arith}
+use native.Mathlib.Numerals.{add-one}
+use lib.ListN.{length, get_or, take, drop}
+use lib.Seq.{drop-cons}
+use Rattle.std.specs.List.{list_any}
+use Rattle.refusals.specs.Search.{any_from}
 use lib.Dec.{eqb}
 use borrow.Author.Tests.{lt-ltb, le-ltb}
 use Rattle.octets.specs.Numbers.{byte_at}
 use Rattle.scp_fields.specs.declared.Edition.{Edition}
 use Rattle.scp_fields.specs.Editions.{table_end}
 use Rattle.scp_fields.specs.Header.{data_end}
-use Rattle.scp_footer.specs.Footer.{zero_within, bad_string_of}
+use Rattle.scp_footer.specs.Footer.{zero_at, zero_within, bad_string_of}
+
+-- the n elements from s on hold a zero exactly if one of their indices does
+pub any_zero : (b : List ℕ) (s n : ℕ) → s + n ≤ length b → list_any (λ y. eqb y 0) (take n (drop s b)) ≡ any_from (zero_at b) s n
+unfolding any_from
+any_zero b s zero h = refl
+any_zero b s (suc n) h =
+    let here : drop s b ≡ get_or b s 0 ∷ drop (s + 1) b = rw (add-one, drop-cons b s 0 (omega arith)) in
+    ap (λ (l : List ℕ). list_any (λ y. eqb y 0) (take (suc n) l)) here
+    ∙ ap (λ (x : Bool). zero_at b s || x) (any_zero b (s + 1) n (omega arith))
 
 module _ (v : Edition) (b : List ℕ) (o n : ℕ) where
   pub string_low : o < table_end v → true ≡ bad_string_of v b o n
