@@ -2,11 +2,14 @@
 -- and for an answer that comes after.
 use Prim.Native.Nat.{ℕ, ◌+◌, ◌-◌, ◌<◌}
 use mathlib.Core.Path.{◌≡◌, refl, sym, ap, ◌∙◌}
+use mathlib.Core.Bool.{Bool, true, false, cond}
 use native.Mathlib.Omega.{arith}
+use borrow.Author.Tests.{eqb-true, eqb-false}
+use Rattle.std.specs.Prelude.{Result, Ok, Err}
 use Rattle.refusals.specs.declared.Reason.{Reason}
 use Rattle.refusals.specs.declared.Reason.TheVariants as reason
 use Rattle.refusals.specs.declared.Refusal.{Refusal}
-use Rattle.refusals.specs.Refusals.{Fault, none, first_of, unless, number_of, in_table}
+use Rattle.refusals.specs.Refusals.{Fault, none, passes, first_of, unless, number_of, in_table}
 use Rattle.refusals.specs.Search.{first_from}
 use Rattle.refusals.proofs.Answers.{unless_refused, unless_found}
 use Rattle.refusals.proofs.Chain.{first_here, first_next}
@@ -74,3 +77,24 @@ module _ {A : Type 0} (q : Fault) (found : A) (refused : Fault → A) where
 
   pub unless_ok : {x : A} → none ≡ q → x ≡ found → x ≡ unless q found refused
   unless_ok p s = unless_found q found refused (ap (λ (x : Fault). x.number) (sym p)) s
+
+-- ---- what is found or refused
+
+module _ {A : Type 0} (q : Fault) (x : A) where
+  -- what is found is what there is, and nothing refuses
+  pub told_ok : {y : A} → ◌≡◌ {A = Result A Fault} (Ok y) (unless q (Ok x) Err) → (q.number ≡ 0) × (y ≡ x)
+  told_ok {y} h = go (passes q) refl h
+    where
+      go : (t : Bool) → passes q ≡ t → ◌≡◌ {A = Result A Fault} (Ok y) (cond t (Ok x) (Err q)) → (q.number ≡ 0) × (y ≡ x)
+      go true p h = (eqb-true q.number 0 p, cc)
+      go false p h = let z : ◌≡◌ {A = ℕ} 0 1 = cc in absurd (omega arith)
+
+  -- what is refused is refused by q
+  pub told_err : {f : Fault} → ◌≡◌ {A = Result A Fault} (Err f) (unless q (Ok x) Err) → (f ≡ q) × (f.number ≡ 0 → ⊥)
+  told_err {f} h = go (passes q) refl h
+    where
+      go : (t : Bool) → passes q ≡ t → ◌≡◌ {A = Result A Fault} (Err f) (cond t (Ok x) (Err q)) → (f ≡ q) × (f.number ≡ 0 → ⊥)
+      go true p h = let z : ◌≡◌ {A = ℕ} 0 1 = cc in absurd (omega arith)
+      go false p h =
+          let e : f ≡ q = cc in
+          (e, λ z. eqb-false q.number 0 p (ap (λ (x : Fault). x.number) (sym e) ∙ z))

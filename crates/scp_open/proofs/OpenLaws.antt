@@ -1,10 +1,11 @@
 -- What opening answers, by what refuses.
-use Prim.Native.Nat.{ℕ}
-use mathlib.Core.Path.{◌≡◌, sym, ap, ◌∙◌}
+use Prim.Native.Nat.{ℕ, min}
+use mathlib.Core.Path.{◌≡◌, refl, ap, ◌∙◌}
 use mathlib.Core.List.{List}
-use mathlib.Core.Bool.{true}
+use mathlib.Core.Bool.{Bool, true, false}
+use lib.Dec.{leb}
 use native.Mathlib.Omega.{arith}
-use borrow.Author.Tests.{eq-eqb, ne_eqb, le-leb}
+use borrow.Author.Tests.{le-leb, leb-true, leb-false}
 use Rattle.refusals.specs.Refusals.{Fault, first_of}
 use Rattle.scp_fields.specs.declared.Edition.{Edition}
 use Rattle.scp_footer.specs.Footer.{footer_fault}
@@ -12,7 +13,15 @@ use Rattle.scp_header.specs.HeaderFault.{header_fault}
 use Rattle.scp_fields.specs.Editions.{slots}
 use Rattle.refusals.specs.Search.{first_from}
 use Rattle.scp_tracks.specs.Tracks.{track_fault, walk_end, tracks_fault_in, tracks_fault}
-use Rattle.scp_open.specs.Opening.{open_fault, fault_in, opened_image, refused_image, opened_of}
+use Rattle.scp_open.specs.Opening.{open_fault, fault_in}
+
+-- a walk ends at the lesser of two ends
+pub walk_least : (v : Edition) (j : ℕ) {n : ℕ} → n ≡ slots v → min j n ≡ walk_end v j
+walk_least v j e = rw e (by (leb j (slots v)) refl)
+  where
+    by : (t : Bool) → leb j (slots v) ≡ t → min j (slots v) ≡ walk_end v j
+    by true q = let h = leb-true j (slots v) q in rw q (omega arith)
+    by false q = let h = leb-false j (slots v) q in rw q (omega arith)
 
 module _ (v : Edition) (b : List ℕ) where
   -- a walk over all slots
@@ -25,16 +34,3 @@ module _ (v : Edition) (b : List ℕ) where
   pub whole_fault : {f : Fault} {n : ℕ} → n ≡ slots v → f ≡ fault_in v b true 0 n → f ≡ open_fault v b
   unfolding open_fault
   whole_fault s e = e ∙ ap (λ (tracks : Fault). first_of (header_fault v b) (first_of (footer_fault v b) tracks)) (whole_walk s)
-
--- f is what opening finds
-module _ (v : Edition) (b : List ℕ) {f : Fault} (e : f ≡ open_fault v b) where
-  number_is : f.number ≡ (open_fault v b).number
-  number_is = ap (λ (x : Fault). x.number) e
-
-  pub opened_refused : (f.number ≡ 0 → ⊥) → refused_image f ≡ opened_of v b
-  unfolding opened_of
-  opened_refused n = ap refused_image e ∙ sym (simp (ne_eqb (open_fault v b).number 0 (λ q. n (number_is ∙ q))))
-
-  pub opened_passes : f.number ≡ 0 → opened_image f v b ≡ opened_of v b
-  unfolding opened_of
-  opened_passes n = ap (λ (x : Fault). opened_image x v b) e ∙ sym (simp (eq-eqb (open_fault v b).number 0 (sym number_is ∙ n)))

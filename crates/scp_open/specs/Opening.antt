@@ -1,8 +1,8 @@
 -- Opening: refusals 1 to 11 and 19 in their order (RO-3, RO-4), and the opened image (T-1).
-use Rattle.std.specs.Prelude.{ℕ, List, Bool, cond, replicate}
-use Rattle.refusals.specs.Refusals.{Fault, none, passes, first_of}
+use Rattle.std.specs.Prelude.{ℕ, List, Bool, cond, Result, Ok, Err}
+use Rattle.refusals.specs.Refusals.{Fault, none, unless, first_of}
 use Rattle.scp_fields.specs.declared.Edition.{Edition}
-use Rattle.scp_fields.specs.Header.{track_slots, version, disk, revolutions, start_track, end_track, flags, width, heads, stored_sum, entries}
+use Rattle.scp_fields.specs.Header.{version, disk, revolutions, start_track, end_track, flags, width, heads, stored_sum, entries}
 use Rattle.scp_header.specs.HeaderFault.{header_fault}
 use Rattle.scp_footer.specs.Footer.{footer_fault}
 use Rattle.scp_tracks.specs.Tracks.{tracks_fault_in, tracks_fault}
@@ -36,19 +36,10 @@ header_of b =
       checksum = stored_sum b;
     }
 
--- T-1: no header: what stands beside a refusal.
-abbrev pub no_header : Header
-no_header =
-    record { version = 0; disk = 0; revolutions = 0; start = 0; end = 0; flags = 0; width = 0; heads = 0; checksum = 0 }
+-- T-1: an opened image: its header and its table.
+abbrev pub opened_image : Edition → List ℕ → Opened
+opened_image v b = record { header = header_of b; table = entries v b }
 
--- T-1: an image that is not refused, with its header and its table.
-abbrev pub opened_image : Fault → Edition → List ℕ → Opened
-opened_image f v b = record { refusal = f; header = header_of b; table = entries v b }
-
--- T-1: a refused image: no header, and no track in the table.
-abbrev pub refused_image : Fault → Opened
-refused_image f = record { refusal = f; header = no_header; table = replicate track_slots 0 }
-
--- T-1: what opening gives.
-unfoldable pub opened_of : Edition → List ℕ → Opened
-opened_of v b = cond (passes (open_fault v b)) (opened_image (open_fault v b) v b) (refused_image (open_fault v b))
+-- T-1: what opening gives: the opened image, or what refuses it.
+unfoldable pub opened_of : Edition → List ℕ → Result Opened Fault
+opened_of v b = unless (open_fault v b) (Ok (opened_image v b)) Err
