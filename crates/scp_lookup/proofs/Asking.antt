@@ -2,7 +2,6 @@
 use Prim.Native.Nat.{ℕ, ◌<◌, ◌≤◌}
 use mathlib.Core.Path.{◌≡◌, refl, sym, ap, ◌∙◌}
 use mathlib.Core.List.{List}
-use mathlib.Core.Bool.{Bool, true, false, cond}
 use native.Mathlib.Omega.{arith}
 use lib.ListN.{length, get_or}
 use lib.Dec.{eqb, leb}
@@ -15,7 +14,9 @@ use Rattle.scp_fields.specs.Header.{track_slots, track_entry, held_entry}
 use Rattle.scp_fields.proofs.EditionLaws.{slots_least, slots_most, held_in}
 use Rattle.refusals.proofs.Chain.{first_here, first_next}
 use Rattle.refusals.proofs.Finding.{both_clear, not_refused}
-use Rattle.scp_open.specs.Opening.{open_fault, opened_image, refused_image, header_of, opened_of}
+use Rattle.refusals.proofs.Passing.{told_ok, told_err}
+use Rattle.std.specs.Prelude.{Ok, Err}
+use Rattle.scp_open.specs.Opening.{open_fault, opened_image, header_of, opened_of}
 use Rattle.scp_open.specs.declared.Opened.{Opened}
 use Rattle.scp_open.proofs.Opens.{opens}
 use Rattle.scp_open.proofs.Table.{list_at}
@@ -24,30 +25,23 @@ use Rattle.scp_lookup.specs.Questions.{track_then, track_question}
 -- ---- an opened image
 
 module _ (v : Edition) (b : List ℕ) where
-  -- what opening finds is in the opened image, whether it refuses or not
-  opened_fault_by : (t : Bool) → (cond t (opened_image (open_fault v b) v b) (refused_image (open_fault v b))).refusal ≡ open_fault v b
-  opened_fault_by true = refl
-  opened_fault_by false = refl
-
-  pub opened_fault : {o : Opened} → o ≡ opened_of v b → o.refusal ≡ open_fault v b
+  -- what refuses an image is what opening finds
+  pub opened_err : {f : Fault} → Err f ≡ opened_of v b → (f ≡ open_fault v b) × (f.number ≡ 0 → ⊥)
   unfolding opened_of
-  opened_fault e = ap (λ (x : Opened). x.refusal) e ∙ opened_fault_by (passes (open_fault v b))
+  opened_err e = told_err (open_fault v b) (opened_image v b) e
 
-  pub opened_number : {o : Opened} → o ≡ opened_of v b → o.refusal.number ≡ (open_fault v b).number
-  opened_number e = ap (λ (x : Fault). x.number) (opened_fault e)
-
-  opened_whole : {o : Opened} → o ≡ opened_of v b → (open_fault v b).number ≡ 0 → o ≡ opened_image (open_fault v b) v b
+  pub opened_ok : {o : Opened} → Ok o ≡ opened_of v b → ((open_fault v b).number ≡ 0) × (o ≡ opened_image v b)
   unfolding opened_of
-  opened_whole e z = e ∙ simp (eq-eqb (open_fault v b).number 0 z)
+  opened_ok e = told_ok (open_fault v b) (opened_image v b) e
 
-  pub opened_header : {o : Opened} → o ≡ opened_of v b → (open_fault v b).number ≡ 0 → o.header ≡ header_of b
-  opened_header e z = ap (λ (x : Opened). x.header) (opened_whole e z)
+  pub opened_header : {o : Opened} → Ok o ≡ opened_of v b → o.header ≡ header_of b
+  opened_header e = ap (λ (x : Opened). x.header) (opened_ok e).1
 
   -- the table has the entry of each track
-  pub opened_entry : {o : Opened} → o ≡ opened_of v b → (open_fault v b).number ≡ 0 → (t : ℕ) → t < slots v → get_or o.table t 0 ≡ track_entry b t
-  opened_entry e z t h =
+  pub opened_entry : {o : Opened} → Ok o ≡ opened_of v b → (t : ℕ) → t < slots v → get_or o.table t 0 ≡ track_entry b t
+  opened_entry e t h =
       let held = list_at (held_entry v b) track_slots t (omega (arith, slots_most v)) in
-      ap (λ (x : Opened). get_or x.table t 0) (opened_whole e z) ∙ held ∙ held_in v b t h
+      ap (λ (x : Opened). get_or x.table t 0) (opened_ok e).1 ∙ held ∙ held_in v b t h
 
   -- an image that opens is at least as long as the shortest table
   pub open_least : (open_fault v b).number ≡ 0 → 680 ≤ length b
