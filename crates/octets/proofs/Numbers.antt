@@ -1,14 +1,21 @@
--- Laws of numbers in bytes, each over the width n, and of stores. A store is a run of single stores, so each law of a store goes
--- by induction over the bytes stored; a number of n + 1 bytes is a byte and a number of n bytes, so each law of numbers goes over n.
-use Rattle.std.proofs.Common.{◌≡◌, ℕ, zero, suc, ◌+◌, ◌-◌, ◌*◌, ◌/◌, ◌%◌, ◌^◌, ◌<◌, ◌≤◌, Bool, true, false, cond, ltb, ◌⊎◌, List, [], ◌∷◌, ◌++◌, length, take, drop, set, ℤ, pos, negsuc, sym, refl, ap, ◌∙◌, inl, inr, not-suc-le-zero, add-zero, mod-eq_of_lt, mul_assoc, suc-add, pow-suc, zero-add, div-one, add-one, arith, length-set, get_or-set_other, get_or-set_same, drop-set-lt, to_z-of_z, w64, to_z, of_z}
+-- Laws of numbers in bytes, each over the width n, of stores, and of what std reads and puts. A store is a run of single stores, so each
+-- law of a store goes by induction over the bytes stored; a number of n + 1 bytes is a byte and a number of n bytes, so each law of
+-- numbers goes over n.
+use Rattle.std.proofs.Common.{◌≡◌, ℕ, zero, suc, ◌+◌, ◌-◌, ◌*◌, ◌/◌, ◌%◌, ◌^◌, ◌<◌, ◌≤◌, Bool, true, false, cond, ltb, ◌⊎◌, List, [], ◌∷◌, ◌++◌, length, take, drop, set, ℤ, pos, negsuc, sym, refl, ap, ◌∙◌, inl, inr, not-suc-le-zero, add-zero, mod-eq_of_lt, pow-suc, div-one, add-one, arith, length-set, get_or-set_other, get_or-set_same, drop-set-lt, to_z-of_z, w64, to_z, of_z}
 use native.Mathlib.Nat.{pow-succ', one-le-pow, div-div-eq-div-mul}
 use native.Mathlib.Decide.{ℕ_discrete}
 use mir.Val.{sel}
 use mir.Facts.{of_z-to_z, sfits_to_z, Fits-of_z}
 use lib.Arith.{mod-mul}
+use Rattle.std.specs.Prelude.{EachIndex}
+use Rattle.std.specs.Int.{from_le_bytes, from_be_bytes, w16, w32}
 use lib.Signed.{mag}
-use lib.Seq.{sets, take-set-le}
-use Rattle.octets.specs.Numbers.{byte_at, Octets, le_at, be16_at, le_bytes, be16_bytes, signed64, unsigned64, has_room, put_at}
+use lib.Seq.{sets, sets-eq, take-set-le}
+use borrow.Author.Tests.{le-leb}
+use borrow.Rule.Slice.PartMut.{put_mid, Post-is}
+use mathlib.Core.List.{append_assoc}
+use Rattle.std.specs.Int.{bytes_low_first, to_le_bytes}
+use Rattle.octets.specs.Numbers.{byte_at, Octets, le_at, le16_at, le32_at, le64_at, be16_at, le_bytes, be16_bytes, signed64, unsigned64, put_at}
 
 -- ---- stores
 
@@ -53,6 +60,17 @@ sets_append (u ∷ us) vs b i =
     let e : i + suc (length us) ≡ suc i + length us = omega arith in
     rw e (sets_append us vs (set b i u) (suc i))
 
+-- ---- two's complement
+
+-- The machine's own reading of 64 bits as a signed number, and back.
+pub signed_is : (n : ℕ) → signed64 n ≡ to_z w64 n
+unfolding signed64
+signed_is n = go (ltb n 9_223_372_036_854_775_808)
+  where
+    go : (x : Bool) → cond x (pos n) (negsuc (18_446_744_073_709_551_615 - n)) ≡ sel x (pos n) (negsuc (2 ^ 64 - suc n))
+    go true = refl
+    go false = ap negsuc (omega arith)
+
 -- ---- numbers read
 
 -- The n bytes from i on are the same in both lists.
@@ -91,23 +109,43 @@ unfolding le_at
 le_bound zero b i h = omega arith
 le_bound (suc n) b i h = rw (pow-succ' 256 n) (omega (arith, h i, le_bound n b (suc i) h))
 
--- A number of m + n bytes: its lower m, and its upper n.
-pub le_split : (m n : ℕ) (b : List ℕ) (i : ℕ) → le_at (m + n) b i ≡ le_at m b i + 256 ^ m * le_at n b (i + m)
+le_cons : (n x : ℕ) (b : List ℕ) (i : ℕ) → le_at n (x ∷ b) (suc i) ≡ le_at n b i
 unfolding le_at
-le_split zero n b i = rw (zero-add n, add-zero i) (omega arith)
-le_split (suc m) n b i =
-    let e : i + suc m ≡ suc i + m = omega arith in
-    rw (suc-add m n, e, pow-succ' 256 m)
-    (omega (arith, le_split m n b (suc i), mul_assoc 256 (256 ^ m) (le_at n b (suc i + m))))
+le_cons zero x b i = refl
+le_cons (suc n) x b i = cc (le_cons n x b (suc i))
 
--- Numbers of two bytes and of four, by the bytes as a program finds them.
-pub be_two : (b : List ℕ) (i j k : ℕ) → j ≡ i → k ≡ i + 1 → be16_at b i ≡ 256 * byte_at b j + byte_at b k
-be_two b i j k e f = let f' : k ≡ suc i = omega arith in rw (e, f')
-
-pub le_two : (b : List ℕ) (i j k : ℕ) → j ≡ i → k ≡ i + 1 → le_at 2 b i ≡ byte_at b j + 256 * byte_at b k
+-- The bytes from i on, as a list of their own, make the number that stands there.
+pub le_listed : (r b : List ℕ) (i : ℕ) → EachIndex r (λ k. byte_at r k ≡ byte_at b (i + k)) → le_at (length r) r 0 ≡ le_at (length r) b i
 unfolding le_at
-le_two b i j k e f = let f' : k ≡ suc i = omega arith in rw (e, f') (omega arith)
+le_listed [] b i h = refl
+le_listed (x ∷ r) b i h =
+    let first : x ≡ byte_at b i = rw add-zero at (h 0 (omega arith)) in
+    let rest = le_listed r b (suc i) (λ k l. let e : suc i + k ≡ i + suc k = omega arith in rw e (h (suc k) (omega arith))) in
+    omega (arith, first, rest, le_cons (length r) x r 0)
 
+-- The numbers that are read, each from the bytes from i on as a list of their own.
+module _ (r b : List ℕ) (i : ℕ) (same : EachIndex r (λ k. byte_at r k ≡ byte_at b (i + k))) where
+  pub le16_read : length r ≡ 2 → from_le_bytes w16 r ≡ le16_at b i
+  unfolding le_at
+  le16_read l = omega (arith, rw l at (le_listed r b i same))
+
+  pub le32_read : length r ≡ 4 → from_le_bytes w32 r ≡ le32_at b i
+  unfolding le_at
+  le32_read l = omega (arith, rw l at (le_listed r b i same))
+
+  pub le64_read : length r ≡ 8 → to_z w64 (from_le_bytes w64 r) ≡ le64_at b i
+  unfolding le_at
+  le64_read l =
+      let e : from_le_bytes w64 r ≡ le_at 8 b i = omega (arith, rw l at (le_listed r b i same)) in
+      ap (to_z w64) e ∙ sym (signed_is (le_at 8 b i))
+
+  pub be16_read : length r ≡ 2 → from_be_bytes w16 r ≡ be16_at b i
+  be16_read l =
+      let upper : byte_at r 0 ≡ byte_at b i = rw add-zero at (same 0 (omega arith)) in
+      let lower : byte_at r 1 ≡ byte_at b (suc i) = rw add-one at (same 1 (omega arith)) in
+      omega (arith, upper, lower)
+
+-- A number of four bytes, by the bytes as a program finds them.
 pub le_four : (b : List ℕ) (i j k l : ℕ) → j ≡ i + 1 → k ≡ i + 2 → l ≡ i + 3
     → le_at 4 b i ≡ byte_at b i + 256 * byte_at b j + 65_536 * byte_at b k + 16_777_216 * byte_at b l
 unfolding le_at
@@ -131,18 +169,6 @@ pub le_length : (n v : ℕ) → length (le_bytes n v) ≡ n
 unfolding le_bytes
 le_length zero v = refl
 le_length (suc n) v = ap suc (le_length n (v / 256))
-
--- The bytes of a number of m + n bytes: those of its lower m, and those of its upper n.
-pub le_bytes_split : (m n v : ℕ) → le_bytes (m + n) v ≡ le_bytes m v ++ le_bytes n (v / 256 ^ m)
-unfolding le_bytes
-le_bytes_split zero n v = rw (zero-add n, div-one v)
-le_bytes_split (suc m) n v =
-    rw (suc-add m n, pow-succ' 256 m, ← div-div-eq-div-mul v 256 (256 ^ m)) (ap (◌∷◌ (v % 256)) (le_bytes_split m n (v / 256)))
-
-le_cons : (n x : ℕ) (b : List ℕ) (i : ℕ) → le_at n (x ∷ b) (suc i) ≡ le_at n b i
-unfolding le_at
-le_cons zero x b i = refl
-le_cons (suc n) x b i = cc (le_cons n x b (suc i))
 
 -- The bytes of a number make its lower n bytes.
 pub le_of_bytes : (n v : ℕ) → le_at n (le_bytes n v) 0 ≡ v % 256 ^ n
@@ -220,17 +246,6 @@ sets_octets [] b i h g = h
 sets_octets (v ∷ vs) b i h g =
     sets_octets vs (set b i v) (suc i) (set_octets b i v h (g zero)) (λ n. g (suc n))
 
--- ---- two's complement
-
--- The machine's own reading of 64 bits as a signed number, and back.
-pub signed_is : (n : ℕ) → signed64 n ≡ to_z w64 n
-unfolding signed64
-signed_is n = go (ltb n 9_223_372_036_854_775_808)
-  where
-    go : (x : Bool) → cond x (pos n) (negsuc (18_446_744_073_709_551_615 - n)) ≡ sel x (pos n) (negsuc (2 ^ 64 - suc n))
-    go true = refl
-    go false = ap negsuc (omega arith)
-
 pub unsigned_is : (z : ℤ) → unsigned64 z ≡ of_z w64 z
 unfolding unsigned64
 unsigned_is (pos n) = refl
@@ -252,26 +267,31 @@ unsigned_range z h = rw (unsigned_is z) (Fits-of_z {w = w64} {z = z} (record { s
 
 -- ---- stores and puts as a program makes them
 
-pub sets_two : (b : List ℕ) (i x y : ℕ) → set (set b i x) (i + 1) y ≡ sets b i (x ∷ y ∷ [])
-sets_two b i x y = rw add-one
+-- Where there is room, a put is a store: the bytes take the place of as many.
+pub put_part : (b vs part : List ℕ) (i n : ℕ) → n ≡ length vs → i + n ≤ length b → part ≡ vs → put_mid i (i + n - i) b part ≡ put_at b i vs
+put_part b vs part i n size room same =
+    let whole : i + length vs ≤ length b = omega arith in
+    let end : i + n ≡ i + length vs = omega arith in
+    ap (λ (p : List ℕ). put_mid i (i + n - i) b p) same
+    ∙ ap (λ (rest : List ℕ). take i b ++ (vs ++ rest)) (Post-is i (i + n) b (omega arith) ∙ ap (λ (k : ℕ). drop k b) end)
+    ∙ sym (append_assoc (take i b) vs (drop (i + length vs) b))
+    ∙ sym (sets-eq vs b i whole)
+    ∙ sym (simp (le-leb (i + length vs) (length b) whole))
 
-pub sets_four : (b : List ℕ) (i x y z w : ℕ) → set (set (set (set b i x) (i + 1) y) (i + 2) z) (i + 3) w ≡ sets b i (x ∷ y ∷ z ∷ w ∷ [])
-sets_four b i x y z w =
-    let e : i + 1 ≡ suc i = omega arith in
-    let f : i + 2 ≡ suc (suc i) = omega arith in
-    let g : i + 3 ≡ suc (suc (suc i)) = omega arith in
-    simp (e, f, g)
+-- The bytes of a number as the machine makes them.
+bytes_behind : (i n v : ℕ) → bytes_low_first i n v ≡ le_bytes n (v / 256 ^ i)
+unfolding le_bytes
+bytes_behind i zero v = refl
+bytes_behind zero (suc n) v = rw (div-one v) (ap (◌∷◌ (v % 256)) (bytes_behind 1 n v))
+bytes_behind (suc i) (suc n) v =
+    let e : v / 256 ^ suc i / 256 ≡ v / 256 ^ suc (suc i) = rw (div-div-eq-div-mul v (256 ^ suc i) 256, ← pow-suc 256 (suc i)) in
+    rw e (ap (◌∷◌ (v / 256 ^ suc i % 256)) (bytes_behind (suc (suc i)) n v))
 
--- A number of m + n bytes is stored by storing its lower m bytes and then its upper n.
-pub sets_split : (m n v : ℕ) (b : List ℕ) (i : ℕ) → sets (sets b i (le_bytes m v)) (i + m) (le_bytes n (v / 256 ^ m)) ≡ sets b i (le_bytes (m + n) v)
-sets_split m n v b i =
-    let e = sets_append (le_bytes m v) (le_bytes n (v / 256 ^ m)) b i in
-    rw (le_bytes_split m n v) (rw (le_length m v) at e)
+pub le16_put : (v : ℕ) → to_le_bytes w16 v ≡ le_bytes 2 v
+le16_put v = rw div-one at (bytes_behind 0 2 v)
 
--- What a test for room tells: the put is done, or it is not.
-module _ (b vs : List ℕ) (i : ℕ) {r : Bool} (e : r ≡ has_room b i (length vs)) where
-  pub put_done : {p : List ℕ} → r ≡ true → p ≡ sets b i vs → p ≡ put_at b i vs
-  put_done t q = q ∙ ap (λ (x : Bool). cond x (sets b i vs) b) (sym t ∙ e)
+pub le32_put : (v : ℕ) → to_le_bytes w32 v ≡ le_bytes 4 v
+le32_put v = rw div-one at (bytes_behind 0 4 v)
 
-  pub put_none : r ≡ false → b ≡ put_at b i vs
-  put_none t = ap (λ (x : Bool). cond x (sets b i vs) b) (sym t ∙ e)
+pub le64_put : (z : ℤ) → to_le_bytes w64 (of_z w64 z) ≡ le_bytes 8 (unsigned64 z)
+le64_put z = rw (unsigned_is z) (rw div-one at (bytes_behind 0 8 (of_z w64 z)))

@@ -1,7 +1,10 @@
--- Laws of byte sums. A loop over the bytes keeps the total so far plus the sum of what is left; a store moves a sum by what it
--- puts less what was there.
-use Rattle.std.proofs.Common.{◌≡◌, ℕ, zero, suc, ◌+◌, ◌*◌, ◌<◌, ◌≤◌, List, [], ◌∷◌, ◌++◌, length, take, drop, set, refl, ap, le_of_suc-le-suc, not-suc-le-zero, add-one, arith, length-set, drop_of_length-le, drop-cons, drop-set-lt}
-use lib.Seq.{sets}
+-- Laws of byte sums: they are summed block by block, and a store moves a sum by what it puts less what was there.
+use Rattle.std.proofs.Common.{◌≡◌, ℕ, zero, suc, ◌+◌, ◌*◌, ◌<◌, ◌≤◌, List, [], ◌∷◌, ◌++◌, length, take, drop, set, refl, ap, le_of_suc-le-suc, not-suc-le-zero, zero-mul, arith, length-set, drop-cons, drop-set-lt}
+use Rattle.std.specs.List.{sum}
+use Rattle.std.specs.Simd.{first_chunks}
+use Rattle.std.proofs.lemmas.List.Sums.{sum_by-cons, sum_by-append}
+use lib.ListN.{get_or}
+use lib.Seq.{sets, take-add, drop-drop}
 use Rattle.octets.specs.Numbers.{byte_at, Octets}
 use Rattle.octets.specs.Sums.{sum_of}
 
@@ -10,15 +13,27 @@ unfolding sum_of
 sum_append [] b = omega arith
 sum_append (x ∷ a) b = omega (arith, sum_append a b)
 
--- The sum from i on: the byte at i, and the sum behind it.
-pub sum_next : (b : List ℕ) (i : ℕ) → i < length b → sum_of (drop i b) ≡ byte_at b i + sum_of (drop (i + 1) b)
+-- The sum is std's.
+pub sum_is : (b : List ℕ) → sum b ≡ sum_of b
 unfolding sum_of
-sum_next b i h = rw (add-one, drop-cons b i 0)
+sum_is [] = refl
+sum_is (x ∷ b) = omega (arith, sum_by-cons (λ (n : ℕ). n) x b, sum_is b)
 
--- Past the end nothing is left to add.
-pub sum_end : (b : List ℕ) (i : ℕ) → length b ≤ i → sum_of (drop i b) ≡ 0
-unfolding sum_of
-sum_end b i h = ap sum_of (drop_of_length-le b h)
+-- Block i of n bytes.
+block_at : (n k : ℕ) (b d : List ℕ) (i : ℕ) → i < k → get_or (first_chunks n k b) i d ≡ take n (drop (i * n) b)
+block_at n zero b d i h = absurd (not-suc-le-zero h)
+block_at n (suc k) b d zero h = rw zero-mul
+block_at n (suc k) b d (suc i) h =
+    let e : n + i * n ≡ suc i * n = omega arith in
+    rw (block_at n k (drop n b) d i (le_of_suc-le-suc h), drop-drop (i * n) n b, e)
+
+-- The first i blocks of n bytes, and one more.
+pub sum_blocks : (n k : ℕ) (b d : List ℕ) (i : ℕ) → i < k
+    → sum (take ((i + 1) * n) b) ≡ sum (take (i * n) b) + sum (get_or (first_chunks n k b) i d)
+sum_blocks n k b d i h =
+    let e : (i + 1) * n ≡ i * n + n = omega arith in
+    rw (e, take-add (i * n) n b, block_at n k b d i h)
+    (sum_by-append (λ (x : ℕ). x) (take (i * n) b) (take n (drop (i * n) b)))
 
 -- Bytes sum to at most 255 each.
 pub sum_bound : (b : List ℕ) → Octets b → sum_of b ≤ 255 * length b

@@ -1,16 +1,22 @@
--- `octets::byte_sum` meets its contract. The loop's invariant: the total so far and the sum of the bytes left are the whole sum, modulo
--- 2^32; each turn moves a block from the bytes left to the total.
-use Rattle.std.proofs.Common.{arith}
+-- Each turn moves a block to the total, and what is left is the rest.
+use Rattle.std.proofs.Common.{◌≡◌, ℕ, ◌*◌, ◌/◌, ◌<◌, [], length, arith}
+use Rattle.std.proofs.lemmas.List.Sums.{sum_by-take-drop}
+use Rattle.octets.proofs.Sums.{sum_is, sum_blocks}
 use Rattle.octets.proofs.byte_sum.Goals as goal
 
-pub loop-i-init : goal.loop-i-init
-loop-i-init c = record { within = omega arith; sum = omega arith }
-
-pub loop-i-preserved : goal.loop-i-preserved
-loop-i-preserved c = record {
-  within = omega arith;
-  sum = omega (arith, c.wrapping_add_u32-total.ensures, c.block_sum.ensures, c.loop-i.invariant.sum);
-}
+pub loop-block-preserved : goal.loop-block-preserved
+loop-block-preserved c =
+    let b = c.args.bytes.now in
+    let l = c.loop-block in
+    let there : l.block-index < length b / 256 = omega arith in
+    let block = rw c.as_chunks.ensures.front at c.block_sum.ensures in
+    omega (arith, block, l.invariant, sum_blocks 256 (length b / 256) b [] l.block-index there)
 
 pub returns : goal.returns
-returns c = omega (arith, c.sum_from.ensures, c.loop-i.invariant.sum)
+returns c =
+    let b = c.args.bytes.now in
+    let l = c.loop-block in
+    let all : l.block-index ≡ length b / 256 = omega arith in
+    let blocks = rw all at l.invariant in
+    let rest = rw c.as_chunks.ensures.back at c.block_sum-2.ensures in
+    omega (arith, blocks, rest, sum_is b, sum_by-take-drop (λ (x : ℕ). x) b (length b / 256 * 256))
