@@ -1,13 +1,19 @@
--- The definitions of reading at the word of number i of some bytes: where it is zero, where it is not, and past the last word.
-use mathlib.Core.Path.{◌≡◌, refl}
+-- The words of some bytes, as the pairs of bytes are read; and the definitions of reading at word i of some words: where it is zero, where it is not,
+-- and past the last word.
+use mathlib.Core.Path.{◌≡◌, refl, sym, ap, ap₂, ◌∙◌}
 use Prim.Native.Nat.{ℕ, zero, suc, ◌+◌, ◌*◌, ◌/◌, ◌%◌, ◌<◌, ◌≤◌}
 use native.Mathlib.Omega.{arith}
 use mathlib.Core.List.{List, [], ◌∷◌}
 use mathlib.Core.Bool.{Bool, true, false, ◌||◌}
-use lib.ListN.{length, drop, drop_of_length-le}
+use native.Mathlib.Numerals.{add-one}
+use lib.ListN.{length, get_or, drop, drop_of_length-le}
+use lib.Seq.{drop-cons}
 use lib.Dec.{ltb, eqb}
 use borrow.Author.Tests.{ltb-false, eqb-false}
-use Rattle.octets.specs.Numbers.{be16_at}
+use Rattle.std.specs.Int.{w16, from_be_bytes}
+use Rattle.std.specs.Prelude.{map}
+use Rattle.std.specs.Simd.{first_chunks}
+use Rattle.std.proofs.lemmas.List.{length-map, get_or-map}
 use Rattle.flux.specs.Coding.{words_of, bad_flux_size, flux_limit}
 use Rattle.flux.specs.Reading.{zero_ticks, intervals, open_time, closing_words, total_ticks, closing_numbers}
 use Rattle.flux.specs.Answers.{gives, step_from}
@@ -18,20 +24,35 @@ length_words [] = refl
 length_words (a ∷ []) = refl
 length_words (a ∷ b ∷ s) = let ih = length_words s in omega arith
 
--- the words from number i on: the word of that number, and those after it
-drop_word : (s : List ℕ) (i : ℕ) → 2 * i + 1 < length s → drop i (words_of s) ≡ be16_at s (2 * i) ∷ drop (i + 1) (words_of s)
-unfolding words_of
-drop_word [] i h = absurd (omega arith)
-drop_word (a ∷ []) i h = absurd (omega arith)
-drop_word (a ∷ b ∷ s) zero h = refl
-drop_word (a ∷ b ∷ s) (suc i) h =
-    let ih = drop_word s i (omega arith) in
-    let e : 2 * suc i ≡ suc (suc (2 * i)) = omega arith in
-    let f : suc i + 1 ≡ suc (i + 1) = omega arith in
-    rw (e, f) ih
+-- w is the word of number i of the words ws
+pub record WordAt (ws : List ℕ) (i w : ℕ) : Type 0 where
+  pub there : i < length ws
+  pub same : w ≡ get_or ws i 0
 
-drop_end : (s : List ℕ) (i : ℕ) → length s / 2 ≤ i → drop i (words_of s) ≡ []
-drop_end s i h = let l : length (words_of s) ≤ i = rw length_words h in drop_of_length-le (words_of s) l
+-- the pairs of the bytes s, read one after the other, are its words
+pub pair_words : (s : List ℕ) → map (from_be_bytes w16) (first_chunks 2 (length s / 2) s) ≡ words_of s
+unfolding words_of
+pair_words [] = refl
+pair_words (a ∷ []) = refl
+pair_words (a ∷ b ∷ s) =
+    let e : suc (suc (length s)) / 2 ≡ suc (length s / 2) = omega arith in
+    let f : a * 256 + b ≡ 256 * a + b = omega arith in
+    rw e (ap₂ ◌∷◌ f (pair_words s))
+
+module _ (s : List ℕ) (ps : List (List ℕ)) (pairs : ps ≡ first_chunks 2 (length s / 2) s) where
+  read_words : map (from_be_bytes w16) ps ≡ words_of s
+  read_words = ap (map (from_be_bytes w16)) pairs ∙ pair_words s
+
+  many : length ps ≡ length (words_of s)
+  many = sym (length-map ps (from_be_bytes w16)) ∙ ap length read_words
+
+  pub word_read : {i w : ℕ} → i < length ps → w ≡ from_be_bytes w16 (get_or ps i []) → WordAt (words_of s) i w
+  word_read {i} {w} h e =
+      let n = many in
+      record { there = omega arith; same = e ∙ sym (get_or-map (from_be_bytes w16) ps i [] 0 h) ∙ ap (λ (ws : List ℕ). get_or ws i 0) read_words }
+
+  pub no_more : {i : ℕ} → length ps ≤ i → length (words_of s) ≤ i
+  no_more h = let n = many in omega arith
 
 -- ---- the definitions at a word that is not zero; at a zero they compute
 
@@ -65,85 +86,85 @@ unfolding step_from
 step_word ws zero from p n h = absurd (h refl)
 step_word ws (suc w) from p n h = refl
 
--- ---- at word i of the bytes s, whose value is w
+-- ---- at word i of the words ws, which is w
 
-module _ (s : List ℕ) (i w : ℕ) (h : 2 * i + 1 < length s) (e : w ≡ be16_at s (2 * i)) where
-  drop_w : drop i (words_of s) ≡ w ∷ drop (i + 1) (words_of s)
-  drop_w = rw e (drop_word s i h)
+module _ {ws : List ℕ} {i w : ℕ} (at : WordAt ws i w) where
+  drop_w : drop i ws ≡ w ∷ drop (i + 1) ws
+  drop_w = rw (at.same, add-one) (drop-cons ws i 0 at.there)
 
   module _ (z : w ≡ 0) where
-    drop_zero : drop i (words_of s) ≡ 0 ∷ drop (i + 1) (words_of s)
+    drop_zero : drop i ws ≡ 0 ∷ drop (i + 1) ws
     drop_zero = rw z at drop_w
 
-    pub intervals_zero : (p : ℕ) → intervals p (drop i (words_of s)) ≡ intervals (p + zero_ticks) (drop (i + 1) (words_of s))
+    pub intervals_zero : (p : ℕ) → intervals p (drop i ws) ≡ intervals (p + zero_ticks) (drop (i + 1) ws)
     unfolding intervals
     intervals_zero p = rw drop_zero refl
 
-    pub open_zero : (p : ℕ) → open_time p (drop i (words_of s)) ≡ open_time (p + zero_ticks) (drop (i + 1) (words_of s))
+    pub open_zero : (p : ℕ) → open_time p (drop i ws) ≡ open_time (p + zero_ticks) (drop (i + 1) ws)
     unfolding open_time
     open_zero p = rw drop_zero refl
 
-    pub closing_zero : closing_words (drop i (words_of s)) ≡ closing_words (drop (i + 1) (words_of s))
+    pub closing_zero : closing_words (drop i ws) ≡ closing_words (drop (i + 1) ws)
     unfolding closing_words
     closing_zero = rw drop_zero refl
 
-    pub total_zero : total_ticks (drop i (words_of s)) ≡ zero_ticks + total_ticks (drop (i + 1) (words_of s))
+    pub total_zero : total_ticks (drop i ws) ≡ zero_ticks + total_ticks (drop (i + 1) ws)
     unfolding total_ticks
     total_zero = rw drop_zero refl
 
-    pub number_zero : closing_numbers i (drop i (words_of s)) ≡ closing_numbers (i + 1) (drop (i + 1) (words_of s))
+    pub number_zero : closing_numbers i (drop i ws) ≡ closing_numbers (i + 1) (drop (i + 1) ws)
     unfolding closing_numbers
     number_zero = rw drop_zero refl
 
-    pub step_zero : (from p : ℕ) → step_from from p i (drop i (words_of s)) ≡ step_from from (p + zero_ticks) (i + 1) (drop (i + 1) (words_of s))
+    pub step_zero : (from p : ℕ) → step_from from p i (drop i ws) ≡ step_from from (p + zero_ticks) (i + 1) (drop (i + 1) ws)
     unfolding step_from
     step_zero from p = rw drop_zero refl
 
   module _ (z : w ≡ 0 → ⊥) where
-    pub intervals_close : (p : ℕ) → intervals p (drop i (words_of s)) ≡ (p + w) ∷ intervals 0 (drop (i + 1) (words_of s))
-    intervals_close p = rw drop_w (intervals_word (drop (i + 1) (words_of s)) w p z)
+    pub intervals_close : (p : ℕ) → intervals p (drop i ws) ≡ (p + w) ∷ intervals 0 (drop (i + 1) ws)
+    intervals_close p = rw drop_w (intervals_word (drop (i + 1) ws) w p z)
 
-    pub open_close : (p : ℕ) → open_time p (drop i (words_of s)) ≡ open_time 0 (drop (i + 1) (words_of s))
-    open_close p = rw drop_w (open_word (drop (i + 1) (words_of s)) w p z)
+    pub open_close : (p : ℕ) → open_time p (drop i ws) ≡ open_time 0 (drop (i + 1) ws)
+    open_close p = rw drop_w (open_word (drop (i + 1) ws) w p z)
 
-    pub closing_close : closing_words (drop i (words_of s)) ≡ suc (closing_words (drop (i + 1) (words_of s)))
-    closing_close = rw drop_w (closing_word (drop (i + 1) (words_of s)) w z)
+    pub closing_close : closing_words (drop i ws) ≡ suc (closing_words (drop (i + 1) ws))
+    closing_close = rw drop_w (closing_word (drop (i + 1) ws) w z)
 
-    pub total_close : total_ticks (drop i (words_of s)) ≡ w + total_ticks (drop (i + 1) (words_of s))
-    total_close = rw drop_w (total_word (drop (i + 1) (words_of s)) w z)
+    pub total_close : total_ticks (drop i ws) ≡ w + total_ticks (drop (i + 1) ws)
+    total_close = rw drop_w (total_word (drop (i + 1) ws) w z)
 
-    pub number_close : closing_numbers i (drop i (words_of s)) ≡ i ∷ closing_numbers (i + 1) (drop (i + 1) (words_of s))
-    number_close = rw drop_w (number_word (drop (i + 1) (words_of s)) w i z)
+    pub number_close : closing_numbers i (drop i ws) ≡ i ∷ closing_numbers (i + 1) (drop (i + 1) ws)
+    number_close = rw drop_w (number_word (drop (i + 1) ws) w i z)
 
-    pub step_close : (from p : ℕ) → step_from from p i (drop i (words_of s)) ≡ gives ((p + w) ∷ 0 ∷ (i + 1) ∷ i ∷ [])
-    step_close from p = rw drop_w (step_word (drop (i + 1) (words_of s)) w from p i z)
+    pub step_close : (from p : ℕ) → step_from from p i (drop i ws) ≡ gives ((p + w) ∷ 0 ∷ (i + 1) ∷ i ∷ [])
+    step_close from p = rw drop_w (step_word (drop (i + 1) ws) w from p i z)
 
 -- ---- past the last word
 
-module _ (s : List ℕ) (i : ℕ) (h : length s / 2 ≤ i) where
-  pub intervals_end : (p : ℕ) → intervals p (drop i (words_of s)) ≡ []
+module _ (ws : List ℕ) (i : ℕ) (h : length ws ≤ i) where
+  pub intervals_end : (p : ℕ) → intervals p (drop i ws) ≡ []
   unfolding intervals
-  intervals_end p = rw (drop_end s i h) refl
+  intervals_end p = rw (drop_of_length-le ws h) refl
 
-  pub open_end : (p : ℕ) → open_time p (drop i (words_of s)) ≡ p
+  pub open_end : (p : ℕ) → open_time p (drop i ws) ≡ p
   unfolding open_time
-  open_end p = rw (drop_end s i h) refl
+  open_end p = rw (drop_of_length-le ws h) refl
 
-  pub closing_end : closing_words (drop i (words_of s)) ≡ 0
+  pub closing_end : closing_words (drop i ws) ≡ 0
   unfolding closing_words
-  closing_end = rw (drop_end s i h) refl
+  closing_end = rw (drop_of_length-le ws h) refl
 
-  pub total_end : total_ticks (drop i (words_of s)) ≡ 0
+  pub total_end : total_ticks (drop i ws) ≡ 0
   unfolding total_ticks
-  total_end = rw (drop_end s i h) refl
+  total_end = rw (drop_of_length-le ws h) refl
 
-  pub number_end : closing_numbers i (drop i (words_of s)) ≡ []
+  pub number_end : closing_numbers i (drop i ws) ≡ []
   unfolding closing_numbers
-  number_end = rw (drop_end s i h) refl
+  number_end = rw (drop_of_length-le ws h) refl
 
-  pub step_end : (from p : ℕ) → step_from from p i (drop i (words_of s)) ≡ gives (p ∷ from ∷ [])
+  pub step_end : (from p : ℕ) → step_from from p i (drop i ws) ≡ gives (p ∷ from ∷ [])
   unfolding step_from
-  step_end from p = rw (drop_end s i h) refl
+  step_end from p = rw (drop_of_length-le ws h) refl
 
 -- ---- flux that is not refused is even and within the limit
 

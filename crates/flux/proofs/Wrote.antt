@@ -1,11 +1,12 @@
 -- A list that is written from a buffer's start, an element or a run of elements at a time.
 use mathlib.Core.Path.{◌≡◌, refl, sym, ap, ap₂, ◌∙◌, subst}
-use Prim.Native.Nat.{ℕ, suc, ◌+◌, ◌<◌, ◌≤◌}
+use Prim.Native.Nat.{ℕ, suc, ◌+◌, ◌-◌, ◌<◌, ◌≤◌}
 use native.Mathlib.Omega.{arith}
 use native.Mathlib.Numerals.{add-one}
-use mathlib.Core.List.{List, [], ◌∷◌, ◌++◌, append-nil}
+use mathlib.Core.List.{List, [], ◌∷◌, ◌++◌, append-nil, append_assoc}
 use lib.ListN.{length, take, drop, set, length-set, length-append, take-append-drop}
-use lib.Seq.{sets, length-take-le, take-suc-set, drop-set-lt, append_snoc, drop-drop}
+use borrow.Rule.Slice.PartMut.{put_mid, Post-is}
+use lib.Seq.{sets, sets-eq, length-take-le, take-suc-set, drop-set-lt, append_snoc, drop-drop}
 
 -- Of `whole` the first n elements stand in d, `rest` is still to be written, and from n on d is what it was, d₀.
 pub record Wrote (d₀ d : List ℕ) (n : ℕ) (rest whole : List ℕ) : Type 0 where
@@ -71,6 +72,20 @@ put_run (v ∷ vs) {d₀} {d} {n} {rest} {whole} room h =
     let e : n + 1 + length vs ≡ n + suc (length vs) = omega arith in
     let f : n + 1 ≡ suc n = omega arith in
     moved (ap (λ (k : ℕ). sets (set d n v) k vs) f) e (put_run vs room (put room h))
+
+-- the same, as a part of the list that is lent and left as `part`
+put_part : (d vs part : List ℕ) (n m : ℕ) → n + length vs ≡ m → m ≤ length d → part ≡ vs → put_mid n (m - n) d part ≡ sets d n vs
+put_part d vs part n m end room same =
+    let fit : n + length vs ≤ length d = omega arith in
+    ap₂ (λ (p r : List ℕ). take n d ++ (p ++ r)) same (Post-is n m d (omega arith) ∙ ap (λ (k : ℕ). drop k d) (sym end))
+    ∙ sym (append_assoc (take n d) vs (drop (n + length vs) d))
+    ∙ sym (sets-eq vs d n fit)
+
+pub put_lent : (vs : List ℕ) {d₀ d part : List ℕ} {n m : ℕ} {rest whole : List ℕ} → length whole ≤ length d₀
+    → Wrote d₀ d n (vs ++ rest) whole → n + length vs ≡ m → part ≡ vs → Wrote d₀ (put_mid n (m - n) d part) m rest whole
+put_lent vs {d₀} {d} {part} {n} {m} {rest} {whole} room h end same =
+    let b = below_run vs rest room h in
+    moved (sym (put_part d vs part n m end (omega arith) same)) end (put_run vs room h)
 
 -- all of it is written
 module _ {d₀ d : List ℕ} {n : ℕ} {whole : List ℕ} (h : Wrote d₀ d n [] whole) where

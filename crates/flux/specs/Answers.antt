@@ -1,14 +1,13 @@
 -- What each public function answers (A-2 to A-5), and what it leaves in the lent buffers (RO-9, RO-10).
-use Rattle.std.specs.Prelude.{ℕ, zero, suc, ◌+◌, min, List, [], ◌∷◌, ◌++◌, cond, length, drop, ltb}
+use Rattle.std.specs.Prelude.{ℕ, zero, suc, ◌+◌, min, List, [], ◌∷◌, ◌++◌, cond, length, drop, ltb, Result, Ok, Err}
+use Rattle.refusals.specs.declared.Refusal.{Refusal}
+use Rattle.refusals.specs.Refusals.{number_of}
 use Rattle.flux.specs.Coding.{words_of, bytes_of, bad_flux_size}
 use Rattle.flux.specs.Reading.{zero_ticks, intervals, open_time, closing_numbers}
 use Rattle.flux.specs.Writing.{first_inexpressible, words_for}
 use Rattle.flux.specs.declared.Step.{Step}
 use Rattle.flux.specs.declared.Step.TheVariants as step
 use Rattle.flux.specs.declared.Filled.{Filled}
-use Rattle.flux.specs.declared.Filled.TheVariants as filled
-use Rattle.flux.specs.declared.Written.{Written}
-use Rattle.flux.specs.declared.Written.TheVariants as written
 
 -- R-15: the number of Places.
 abbrev pub places_refused : ℕ
@@ -30,10 +29,10 @@ pub data Answer : Type 0 where
 -- ---- a step of the cursor (F-9, F-10)
 
 -- A-3: number and values of each case: interval, open time, next word and closing word; where there is no interval, open time and next word.
-abbrev pub of_step : Step → Answer
-of_step (step.Interval t o c n) = gives (t ∷ o ∷ n.word ∷ c ∷ [])
-of_step (step.Open o n) = gives (o ∷ n.word ∷ [])
-of_step (step.Refused r) = refused r.number r.position
+abbrev pub of_step : Result Step Refusal → Answer
+of_step (Ok (step.Interval t o c n)) = gives (t ∷ o ∷ n.word ∷ c ∷ [])
+of_step (Ok (step.Open o n)) = gives (o ∷ n.word ∷ [])
+of_step (Err r) = refused (number_of r.reason) r.position
 
 -- F-9, F-10: the cursor is at word `from`; p ticks are pending at word n, where the words ws are left. The first closing word gives the
 -- interval, the cursor just past it, and its own number; where none is left, the open time, and the cursor unchanged.
@@ -70,9 +69,9 @@ in_places places vs xs = cond (ltb places (length xs)) (refuses places_refused 0
 -- ---- all intervals at one go
 
 -- A-4: number and values of each case: how many places are filled, and the open time.
-abbrev pub of_filled : Filled → Answer
-of_filled (filled.Places n o) = gives (n ∷ o ∷ [])
-of_filled (filled.Refused r) = refused r.number r.position
+abbrev pub of_filled : Result Filled Refusal → Answer
+of_filled (Ok f) = gives (f.filled ∷ f.«open» ∷ [])
+of_filled (Err r) = refused (number_of r.reason) r.position
 
 -- F-12: a list xs made of the flux, whose open time is o, into so many places.
 abbrev pub read_into : ℕ → List ℕ → ℕ → Filling
@@ -101,9 +100,9 @@ closed_numbers s times closings = closing_reading s (min (length times) (length 
 -- ---- words from times
 
 -- A-5: number and values of each case: how many bytes are filled.
-abbrev pub of_written : Written → Answer
-of_written (written.Bytes n) = gives (n ∷ [])
-of_written (written.Refused r) = refused r.number r.position
+abbrev pub of_written : Result ℕ Refusal → Answer
+of_written (Ok n) = gives (n ∷ [])
+of_written (Err r) = refused (number_of r.reason) r.position
 
 -- F-15: the bytes bs, into so many places.
 abbrev pub write_into : ℕ → List ℕ → Filling

@@ -1,11 +1,11 @@
 -- The numbers of flux words that a report wants without their list (F-21).
-use Rattle.std.specs.Prelude.{ℕ, List, [], ◌∷◌, cond, length}
+use Rattle.std.specs.Prelude.{ℕ, List, [], ◌∷◌, cond, length, Result, Ok, Err}
+use Rattle.refusals.specs.declared.Refusal.{Refusal}
+use Rattle.refusals.specs.Refusals.{number_of}
 use Rattle.flux.specs.Coding.{words_of, bad_flux_size}
 use Rattle.flux.specs.Reading.{intervals, open_time, total_ticks}
 use Rattle.flux.specs.Answers.{Answer, refused, gives, words_refused}
 use Rattle.flux_summary.specs.declared.Summary.{Summary}
-use Rattle.flux_summary.specs.declared.Summarized.{Summarized}
-use Rattle.flux_summary.specs.declared.Summarized.TheVariants as summarized
 
 -- F-21: of words: how many intervals, the open time, and the ticks of all of them.
 abbrev pub summary_of : List ℕ → List ℕ
@@ -16,9 +16,9 @@ abbrev pub summary_numbers : Summary → List ℕ
 summary_numbers m = m.intervals ∷ m.«open» ∷ m.total ∷ []
 
 -- A-21: number and values of each case: how many intervals, the open time, the ticks of all words.
-abbrev pub of_summarized : Summarized → Answer
-of_summarized (summarized.Given m) = gives (summary_numbers m)
-of_summarized (summarized.Refused r) = refused r.number r.position
+abbrev pub of_summarized : Result Summary Refusal → Answer
+of_summarized (Ok m) = gives (summary_numbers m)
+of_summarized (Err r) = refused (number_of r.reason) r.position
 
 -- F-21, R-17: the numbers of flux bytes s; 17 where they are refused by their length.
 abbrev pub summarizing : List ℕ → Answer

@@ -18,9 +18,7 @@ returns-then-flux-places c =
     let m = at_most_words (words_of s) in
     let l = length_words s in
     let h : length (intervals 0 (words_of s)) ≤ c.args.places = omega arith in
-    sym (le-leb _ _ h)
+    le-leb _ _ c.if-flux-places.true ∙ sym (le-leb _ _ h)
 
-pub returns : goal.returns
-returns c =
-    let n = counted (words_of c.args.flux.now) in
-    ap (λ (k : ℕ). leb k c.args.places) (c.count_closing.ensures ∙ sym n)
+pub returns-else-flux-places : goal.returns-else-flux-places
+returns-else-flux-places c = ap (λ (k : ℕ). leb k c.args.places) (c.count_closing.ensures ∙ sym (counted (words_of c.args.flux.now)))
