@@ -1,6 +1,6 @@
 -- An image is accepted exactly if it obeys: each test of a refusal fails exactly if its rule holds.
 use Prim.Native.Nat.{ℕ, ◌+◌, ◌*◌, ◌<◌, ◌≤◌}
-use mathlib.Core.Path.{◌≡◌, refl, ap}
+use mathlib.Core.Path.{◌≡◌, refl, sym, ap}
 use mathlib.Core.List.{List}
 use mathlib.Core.Bool.{and-eq-true_iff}
 use native.Mathlib.Omega.{arith}
@@ -14,6 +14,7 @@ use Rattle.dsk_fields.specs.Fields.{block_text, says_at, info_size, tracks, side
 use Rattle.dsk_header.specs.HeaderFault.{head_fault}
 use Rattle.dsk_header.proofs.HeaderLaws.{Headed, headed, head_clear}
 use Rattle.dsk_check.specs.Faults.{bad_block, larger_code, bad_sectors, bad_data, block_fault_at, block_fault, track_fault, blocks_fault, dsk_fault}
+use Rattle.dsk_check.specs.Steps.{Roomy}
 use Rattle.dsk_check.specs.Validity.{BlockHolds, Valid, ValidatesExactly}
 use Rattle.dsk_fields.proofs.Texts.{begins_part, part_begins}
 use Rattle.dsk_fields.proofs.Strides.{stride, block_ends}
@@ -91,6 +92,10 @@ module _ (b : List ℕ) where
 
 pub validates_exactly : ValidatesExactly
 validates_exactly b = (λ e. obeys b (ap (λ (f : Fault). f.number) e), λ v. clear_dsk b (accepts b v))
+
+-- an image whose header is not refused has room for its blocks
+pub roomy : (b : List ℕ) → none ≡ head_fault b → Roomy b
+roomy b e = let h = headed b (ap (λ (f : Fault). f.number) (sym e)) in record { whole = h.whole; least = h.size }
 
 -- ---- where a block and its sector data lie in an image that is accepted
 

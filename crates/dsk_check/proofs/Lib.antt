@@ -1,1 +1,3 @@
+pub mod Infos
+pub mod Results
 pub mod Accepting

@@ -2,8 +2,8 @@
 // Each function is total: past the end a byte reads 0.
 #![tactic(auto)]
 
-ghost use Rattle.std.specs.Prelude.{◌≡◌, ◌<◌, ◌≤◌};
-ghost use Rattle.dsk_fields.specs.Fields.{tracks as track_count, sides as side_count, track_size, sector_size};
+ghost use Rattle.std.specs.Prelude.{◌≡◌, ◌+◌, ◌<◌, ◌≤◌, length, take, drop};
+ghost use Rattle.dsk_fields.specs.Fields.{tracks as track_count, sides as side_count, track_size, block_index, block_of, info_size, sector_size};
 
 // How many bytes the Disc Information Block has, and each Track Information Block (DK-2, DK-4).
 pub const INFO_SIZE: usize = 256;
@@ -43,34 +43,53 @@ pub const ENTRY_STATUS1_AT: usize = 4;
 
 pub const ENTRY_STATUS2_AT: usize = 5;
 
-fn wide(x: u8) -> usize
-    ensures { (result ≡ x) × (result < 256) }
-{
-    x as usize
-}
-
 // The number of tracks.
 pub fn tracks(image: &[u8]) -> usize
     ensures { (result ≡ track_count image.now) × (result < 256) }
 {
-    wide(octets::byte(image, TRACKS_AT))
+    usize::from(octets::byte(image, TRACKS_AT))
 }
 
 // The number of sides.
 pub fn sides(image: &[u8]) -> usize
     ensures { (result ≡ side_count image.now) × (result < 256) }
 {
-    wide(octets::byte(image, SIDES_AT))
+    usize::from(octets::byte(image, SIDES_AT))
 }
 
 // The size of a track block.
 pub fn track_size(image: &[u8]) -> usize
     ensures { (result ≡ track_size image.now) × (result < 65_536) }
 {
-    octets::le16(image, TRACK_SIZE_AT) as usize
+    usize::from(octets::le16(image, TRACK_SIZE_AT))
+}
+
+// The index of the block of a track and a side: track 0 side 0, track 0 side 1, track 1 side 0, and so on (DK-3).
+pub fn block_index(image: &[u8], track: usize, side: usize) -> usize
+    requires { (track < 256) × (side < 256) }
+    ensures { (result ≡ block_index image.now track side) × (result < 65_536) }
+{
+    track * sides(image) + side
+}
+
+// Where the block of a track and a side starts.
+pub fn block_at(image: &[u8], track: usize, side: usize) -> usize
+    requires { (track < 256) × (side < 256) }
+    ensures { result ≡ block_of image.now track side }
+{
+    INFO_SIZE + block_index(image, track, side) * track_size(image)
+}
+
+// The information block that starts at an offset.
+pub fn info_at(image: &[u8], at: usize) -> &[u8; INFO_SIZE]
+    requires { at + info_size ≤ length image.now }
+    ensures { result.now ≡ take info_size (drop at image.now) }
+{
+    image[at..].first_chunk().unwrap()
 }
 
 // How many bytes a sector of a size code takes; a code above 6, which is refused, counts as 6.
+#[tactic(auto, unfolding(crate::specs::Fields::sector_size))]
 pub fn sector_size(code: u8) -> usize
     ensures { (result ≡ sector_size code) × (result ≤ 6_144) }
 {
