@@ -1,7 +1,7 @@
 // UTF-8 by the Unicode Standard, section 3.9: whether bytes are well-formed, and up to where they are.
 #![tactic(auto)]
 
-ghost use Rattle.std.specs.Prelude.{◌≡◌, ℕ, [], ◌∷◌, ◌<◌, ◌≤◌, length, drop, take, slice_index_or};
+ghost use Rattle.std.specs.Prelude.{◌≡◌, ℕ, [], ◌∷◌, true, ◌<◌, ◌≤◌, length, drop, take, slice_index_or};
 ghost use Rattle.std.specs.Str.{IsAscii};
 ghost use Rattle.copies.specs.Copying.{part};
 ghost use Rattle.utf8.specs.Table.{◌to◌, holds, sequence_size, valid_up_to, well_formed};
@@ -76,15 +76,25 @@ fn size_at(text: &[u8], at: usize) -> Option<usize>
 
 // ---- ASCII, of which each byte is a sequence
 
+// True only if the block is ASCII: no test ends early, so the compiler makes them all at once.
+fn is_ascii_block(block: &[u8; 64]) -> bool
+    ensures { result ≡ true → IsAscii block.now }
+{
+    let mut ascii = true;
+    for b in block {
+        ascii &= b.is_ascii();
+    }
+    ascii
+}
+
 // How many of the blocks are ASCII with which they start.
-#[tactic(auto)]
 fn ascii_blocks(blocks: &[[u8; 64]]) -> usize
     ensures within { result ≤ length blocks.now }
     ensures ascii { (i : ℕ) → i < result → IsAscii (slice_index_or blocks.now i []) }
 {
     blocks
         .iter()
-        .position(|block| !block.is_ascii())
+        .position(|block| !is_ascii_block(block))
         .unwrap_or(blocks.len())
 }
 
