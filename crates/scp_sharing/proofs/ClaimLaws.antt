@@ -24,10 +24,6 @@ use Rattle.scp_sharing.specs.declared.Stand.{Stand}
 pub extent_is : {s s' n n' : ℕ} → s ≡ s' → n ≡ n' → extent s n ≡ extent s' n'
 extent_is {s} {s'} {n} {n'} e f = cc
 
-pub stand_is : {n n' : ℕ} {x x' : Extent} → n ≡ n' → x ≡ x'
-    → ◌≡◌ {A = Stand} (record { numbers = extent n 8; flux = x }) (record { numbers = extent n' 8; flux = x' })
-stand_is {n} {n'} {x} {x'} e f = cc
-
 -- the first of two tests says yes, and p is what it says
 pub or_here : {p x : Bool} (y : Bool) → p ≡ x → p ≡ true → p ≡ (x || y)
 or_here {p} {x} y e t = let yes : x ≡ true = sym e ∙ t in t ∙ sym (simp yes)
