@@ -24,12 +24,13 @@ use Rattle.scp_sharing.specs.declared.Stand.{Stand}
 pub extent_is : {s s' n n' : ℕ} → s ≡ s' → n ≡ n' → extent s n ≡ extent s' n'
 extent_is {s} {s'} {n} {n'} e f = cc
 
-pub stand_is : {n n' : ℕ} {x x' : Extent} → n ≡ n' → x ≡ x'
-    → ◌≡◌ {A = Stand} (record { numbers = extent n 8; flux = x }) (record { numbers = extent n' 8; flux = x' })
-stand_is {n} {n'} {x} {x'} e f = cc
+-- the first of two tests says yes, and p is what it says
+pub or_here : {p x : Bool} (y : Bool) → p ≡ x → p ≡ true → p ≡ (x || y)
+or_here {p} {x} y e t = let yes : x ≡ true = sym e ∙ t in t ∙ sym (simp yes)
 
-pub or_same : {p q x y : Bool} → p ≡ x → q ≡ y → (p || q) ≡ (x || y)
-or_same {p} {q} {x} {y} e f = cc
+-- the first says no, and q is what the second says
+pub or_next : {p q x y : Bool} → p ≡ x → p ≡ false → q ≡ y → q ≡ (x || y)
+or_next {p} {q} {x} {y} e f g = let no : x ≡ false = sym e ∙ f in g ∙ sym (simp no)
 
 module _ (p : Extent → Bool) where
   -- ---- lists
@@ -118,12 +119,9 @@ module _ (p : Extent → Bool) where
 -- ---- a track header as the walk takes it: at is where the record stands, n the header's size
 
 module _ (s : Stand) (b : List ℕ) (t k u e : ℕ) {n : ℕ} where
-  pub own_hit : {at : ℕ} {x y : Extent} {p q : Bool} → u ≡ t → at ≡ revolution_at e k → n ≡ header_size b
-      → p ≡ hit s x → x ≡ between e at → q ≡ hit s y → y ≡ between (at + 8) (e + n) → (p || q) ≡ any_of (hit s) (header_claims b t k u e)
-  own_hit own a z hx x hy y =
-      let before = hx ∙ ap (hit s) (x ∙ ap (between e) a) in
-      let behind = hy ∙ ap (hit s) (y ∙ ap (λ (i : ℕ). between (i + 8) (e + n)) a ∙ ap (λ (i : ℕ). between (revolution_at e k + 8) (e + i)) z) in
-      or_same before behind ∙ sym (header_own (hit s) b t k u e own)
+  pub own_parts : {at : ℕ} {x y : Extent} → u ≡ t → at ≡ revolution_at e k → n ≡ header_size b → x ≡ between e at → y ≡ between (at + 8) (e + n)
+      → (hit s x || hit s y) ≡ any_of (hit s) (header_claims b t k u e)
+  own_parts {at} {x} {y} own a z before behind = let parts = header_own (hit s) b t k u e own in cc
 
   pub other_hit : {p : Bool} → u ≢ t → n ≡ header_size b → p ≡ hit s (extent e n) → p ≡ any_of (hit s) (header_claims b t k u e)
   other_hit other z h = h ∙ ap (λ (i : ℕ). hit s (extent e i)) z ∙ sym (header_other (hit s) b t k u e other)
