@@ -82,6 +82,7 @@ impl Extent {
     }
 
     // Whether two extents have a byte in common: the later one starts in the other, and is not empty. No sum is made that could wrap.
+    #[tactic(auto, using(crate::proofs::Meeting::meets_later, crate::proofs::Meeting::meets_earlier))]
     fn meets(self, other: Extent) -> bool
         ensures { result ≡ meets self other }
     {
@@ -94,6 +95,7 @@ impl Extent {
 
 impl Stand {
     // Whether an extent has a byte that the rewrite stands on.
+    #[tactic(auto, unfolding(crate::specs::Claims::hit))]
     fn hits(self, x: Extent) -> bool
         ensures { result ≡ hit self x }
     {
@@ -150,6 +152,7 @@ fn stand_of(image: &[u8], e: u32, k: u32) -> Stand
 
 impl Search<'_> {
     // The header of a track: the rewrite's own but for the 8 bytes, another's whole.
+    #[tactic(auto, unfolding(crate::specs::Claims::header_claims, crate::specs::Extents::any_of))]
     fn header_hit(&self, t: Track) -> bool
         ensures { result ≡ any_of (hit self.now.stand) (header_claims self.now.image.now self.now.track self.now.revolution t.number t.entry) }
     {
@@ -166,6 +169,7 @@ impl Search<'_> {
 
     // The flux of revolution j of a track; never the rewrite's own. Most flux lies behind or before all that the rewrite stands on, and is not
     // looked at further.
+    #[tactic(auto, unfolding(crate::specs::Claims::flux_claim, crate::specs::Extents::any_of))]
     fn flux_hit(&self, t: Track, j: u32) -> bool
         ensures { result ≡ any_of (hit self.now.stand) (flux_claim self.now.image.now self.now.track self.now.revolution t.number t.entry j) }
     {
@@ -196,6 +200,7 @@ impl Search<'_> {
     }
 
     // A track, where its entry is not 0.
+    #[tactic(auto, using(crate::proofs::ClaimLaws::track_none, crate::proofs::ClaimLaws::track_parts))]
     fn track_hit(&self, t: Track) -> bool
         ensures { result ≡ any_of (hit self.now.stand) (track_claim self.now.image.now self.now.track self.now.revolution t.number t.entry) }
     {
@@ -220,6 +225,7 @@ impl Search<'_> {
     }
 
     // The string at offset o, with its length and its zero byte.
+    #[tactic(auto, unfolding(crate::specs::Claims::string_claim, crate::specs::Extents::any_of))]
     fn string_hit(&self, o: u32) -> bool
         ensures { result ≡ any_of (hit self.now.stand) (string_claim self.now.image.now o) }
     {
@@ -245,6 +251,7 @@ impl Search<'_> {
     }
 
     // The footer and its strings.
+    #[tactic(auto, using(crate::proofs::ClaimLaws::footer_none, crate::proofs::ClaimLaws::footer_parts))]
     fn footer_hit(&self) -> bool
         ensures { result ≡ any_of (hit self.now.stand) (footer_claims self.now.edition self.now.image.now) }
     {
@@ -259,6 +266,7 @@ impl Search<'_> {
     }
 
     // All claims.
+    #[tactic(auto, using(crate::proofs::ClaimLaws::claims_parts))]
     fn claims_hit(&self) -> bool
         ensures { result ≡ any_of (hit self.now.stand) (claims self.now.edition self.now.image.now self.now.track self.now.revolution) }
     {
@@ -270,6 +278,7 @@ impl Search<'_> {
     }
 
     // Whether a byte that the rewrite stands on is claimed twice (W-5).
+    #[tactic(auto, unfolding(crate::specs::Claims::shared))]
     fn is_shared(&self) -> bool
         ensures { result ≡ shared self.now.edition self.now.image.now self.now.stand self.now.track self.now.revolution }
     {
