@@ -79,7 +79,7 @@ fn find_block(image: &[u8], track: u32, side: u32) -> Result<usize, Refusal>
     if dsk_fields::tracks(image) <= track || dsk_fields::sides(image) <= side {
         return Err(Reason::Absent.at(0));
     }
-    Ok(dsk_fields::block_at(image, track, side))
+    Ok(dsk_fields::block_at(image, track as u8, side as u8))
 }
 
 // The fields of a Track Information Block.
@@ -100,7 +100,7 @@ pub fn block(image: &[u8], track: u32, side: u32) -> Result<TrackBlock, Refusal>
     ensures { found result ≡ block_answer image.now track side }
 {
     let at = find_block(image, track, side)?;
-    Ok(read_block(dsk_fields::info_at(image, at)))
+    Ok(read_block(dsk_fields::info_at(image, at).unwrap()))
 }
 
 // ---- a sector

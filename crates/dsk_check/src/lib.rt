@@ -80,8 +80,9 @@ fn block_fault(image: &[u8], track: usize, side: usize) -> Result<(), Refusal>
     requires { Roomy image.now × (track < track_count image.now) × (side < side_count image.now) × (track < 256) × (side < 256) }
     ensures { fault_of result ≡ block_fault image.now track side }
 {
-    let index = dsk_fields::block_index(image, track, side) as u64;
-    let info = dsk_fields::info_at(image, dsk_fields::block_at(image, track, side));
+    let index = dsk_fields::block_index(image, track as u8, side as u8) as u64;
+    let at = dsk_fields::block_at(image, track as u8, side as u8);
+    let info = dsk_fields::info_at(image, at).unwrap();
     if bad_block(info, track, side) {
         return Err(Reason::DskBlock.at(index));
     }

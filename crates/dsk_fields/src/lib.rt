@@ -2,7 +2,7 @@
 // Each function is total: past the end a byte reads 0.
 #![tactic(auto)]
 
-ghost use Rattle.std.specs.Prelude.{◌≡◌, ◌+◌, ◌<◌, ◌≤◌, length, take, drop};
+ghost use Rattle.std.specs.Prelude.{IsSome, IsNone, IfSome, ◌≡◌, ◌+◌, ◌<◌, ◌≤◌, length, take, drop};
 ghost use Rattle.dsk_fields.specs.Fields.{tracks as track_count, sides as side_count, track_size, block_index, block_of, info_size, sector_size};
 
 // How many bytes the Disc Information Block has, and each Track Information Block (DK-2, DK-4).
@@ -65,27 +65,26 @@ pub fn track_size(image: &[u8]) -> usize
 }
 
 // The index of the block of a track and a side: track 0 side 0, track 0 side 1, track 1 side 0, and so on (DK-3).
-pub fn block_index(image: &[u8], track: usize, side: usize) -> usize
-    requires { (track < 256) × (side < 256) }
+pub fn block_index(image: &[u8], track: u8, side: u8) -> usize
     ensures { (result ≡ block_index image.now track side) × (result < 65_536) }
 {
-    track * sides(image) + side
+    usize::from(track) * sides(image) + usize::from(side)
 }
 
 // Where the block of a track and a side starts.
-pub fn block_at(image: &[u8], track: usize, side: usize) -> usize
-    requires { (track < 256) × (side < 256) }
+pub fn block_at(image: &[u8], track: u8, side: u8) -> usize
     ensures { result ≡ block_of image.now track side }
 {
     INFO_SIZE + block_index(image, track, side) * track_size(image)
 }
 
-// The information block that starts at an offset.
-pub fn info_at(image: &[u8], at: usize) -> &[u8; INFO_SIZE]
-    requires { at + info_size ≤ length image.now }
-    ensures { result.now ≡ take info_size (drop at image.now) }
+// The information block that starts at an offset, or none where the image ends before it does.
+pub fn info_at(image: &[u8], at: usize) -> Option<&[u8; INFO_SIZE]>
+    ensures there { at + info_size ≤ length image.now → IsSome result }
+    ensures past { length image.now < at + info_size → IsNone result }
+    ensures value { IfSome result (λ info. info.now ≡ take info_size (drop at image.now)) }
 {
-    image[at..].first_chunk().unwrap()
+    image.get(at..)?.first_chunk()
 }
 
 // How many bytes a sector of a size code takes; a code above 6, which is refused, counts as 6.
