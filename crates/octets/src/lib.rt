@@ -156,7 +156,11 @@ fn block_sum(block: &[u8]) -> u16
     requires { length block.now ≤ 256 }
     ensures { result ≡ sum block.now }
 {
-    block.iter().map(|b| u16::from(*b)).sum()
+    let mut total: u16 = 0;
+    for b in block {
+        total += u16::from(*b);
+    }
+    total
 }
 
 // The sum of all bytes, modulo 2^32.
