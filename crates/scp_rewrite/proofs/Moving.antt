@@ -1,6 +1,6 @@
 -- The checksum moved along with the stores. A store behind the checksum moves the true sum by what it puts less what was there, and the
 -- running sum by the same, modulo 2^32; so after all of them the sum has moved by the change of the true sum.
-use Rattle.std.proofs.Common.{◌≡◌, ℕ, ◌+◌, ◌-◌, ◌%◌, ◌<◌, ◌≤◌, List, length, take, drop, sym, ap, ◌∙◌, arith, take-append-drop}
+use Rattle.std.proofs.Common.{◌≡◌, ℕ, ◌+◌, ◌%◌, ◌<◌, ◌≤◌, List, length, take, drop, sym, ap, ◌∙◌, arith, take-append-drop}
 use lib.Seq.{sets}
 use Rattle.octets.specs.Sums.{sum_of}
 use Rattle.octets.proofs.Numbers.{take_sets}
@@ -34,11 +34,6 @@ added x y z w e f = omega arith
 
 cancelled : (x y a : ℕ) → (x + a) % 4_294_967_296 ≡ (y + a) % 4_294_967_296 → x % 4_294_967_296 ≡ y % 4_294_967_296
 cancelled x y a e = omega arith
-
--- a sum s with n put and o taken away, and what was taken away given back
-pub given_back : (s n o x y : ℕ) → o < 4_294_967_296 → o ≡ x → n ≡ y
-    → (((s + n) % 4_294_967_296 + (4_294_967_296 - o)) % 4_294_967_296 + x) % 4_294_967_296 ≡ (s + y) % 4_294_967_296
-given_back s n o x y h e f = omega arith
 
 -- t and u are the sums before and after, n is put and o was there
 step : (s r s₀ c t u n o : ℕ) → u + o ≡ t + n → (s + c) % 4_294_967_296 ≡ (s₀ + t % 4_294_967_296) % 4_294_967_296

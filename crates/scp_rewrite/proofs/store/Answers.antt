@@ -2,7 +2,6 @@
 use Rattle.std.proofs.Common.{◌≡◌, ℕ, ◌+◌, ◌-◌, length, take, drop, ap, ◌∙◌, arith, rules}
 use Rattle.octets.specs.Sums.{byte_sum}
 use Rattle.scp_rewrite.proofs.Patching.{put_whole}
-use Rattle.scp_rewrite.proofs.Moving.{given_back}
 use Rattle.scp_rewrite.proofs.store.Goals as goal
 
 pub returns : goal.returns
@@ -12,5 +11,8 @@ returns c =
     let old = c.byte_sum-old.ensures ∙ ap (λ (n : ℕ). byte_sum (take n (drop a.at a.image.now))) size in
     record {
       bytes = put_whole a.image.now a.bytes.now _ a.at (search rules) c.copy_from_slice.ensures.after;
-      sum = given_back a.sum _ _ _ _ (search rules) old c.byte_sum-new.ensures;
+      sum =
+          let new = c.byte_sum-new.ensures in
+          let below = c.byte_sum-old.type_inv in
+          omega arith;
     }
