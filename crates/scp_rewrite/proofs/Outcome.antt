@@ -1,43 +1,31 @@
--- What a rewrite answers and leaves, by what refuses it.
-use Rattle.std.proofs.Common.{◌≡◌, ℕ, ◌≢◌, List, [], length, sym, ap, ◌∙◌, eq-eqb, ne_eqb}
+-- What a rewrite leaves, by what refuses it.
+use Rattle.std.proofs.Common.{◌≡◌, ℕ, true, List, length, sym, ap, ◌∙◌, eq-eqb, ne_eqb}
 use mathlib.Core.Path.{subst⁻¹}
-use Rattle.refusals.specs.Refusals.{Fault}
+use Rattle.refusals.specs.Refusals.{Fault, none, passes, in_table}
+use Rattle.refusals.specs.declared.Refusal.{Refusal}
+use Rattle.refusals.proofs.Passing.{refuses}
 use Rattle.scp_fields.specs.declared.Edition.{Edition}
 use Rattle.scp_fields.specs.Header.{track_entry}
-use Rattle.scp.specs.Answers.{refused, numbers}
 use Rattle.scp_sharing.specs.RewriteFault.{rewrite_fault}
 use Rattle.scp_rewrite.specs.Rewriting.{patched, summed, after_rewrite}
-use Rattle.scp_rewrite.specs.Answering.{rewrite_answer}
 use Rattle.scp_rewrite.specs.Steps.{Patchable}
 use Rattle.scp_sharing.proofs.Accepted.{accepted}
 use Rattle.scp_rewrite.proofs.Frame.{lies}
 
--- f is what refuses it
-module _ (v : Edition) (b : List ℕ) (t k : ℕ) (ws : List ℕ) {f : Fault} (q : f ≡ rewrite_fault v b t k ws) where
-  number_is : f.number ≡ (rewrite_fault v b t k ws).number
-  number_is = ap (λ (x : Fault). x.number) q
-
-  pub answers_refused : f.number ≢ 0 → refused f.number f.position ≡ rewrite_answer v b t k ws
-  answers_refused n =
-      ap (λ (x : Fault). refused x.number x.position) q
-      ∙ sym (simp (ne_eqb (rewrite_fault v b t k ws).number 0 (λ z. n (number_is ∙ z))))
-
-  pub answers_done : f.number ≡ 0 → numbers [] ≡ rewrite_answer v b t k ws
-  answers_done z = sym (simp (eq-eqb (rewrite_fault v b t k ws).number 0 (sym number_is ∙ z)))
-
-  pub leaves_all : (d : ℕ) → f.number ≢ 0 → b ≡ after_rewrite v b t k d ws
+module _ (v : Edition) (b : List ℕ) (t k d : ℕ) (ws : List ℕ) where
+  -- r refuses it
+  pub leaves_all : (r : Refusal) → in_table r ≡ rewrite_fault v b t k ws → b ≡ after_rewrite v b t k d ws
   unfolding after_rewrite
-  leaves_all d n = sym (simp (ne_eqb (rewrite_fault v b t k ws).number 0 (λ z. n (number_is ∙ z))))
+  leaves_all r q = sym (simp (ne_eqb (rewrite_fault v b t k ws).number 0 (refuses r q)))
 
-  -- e is the entry of track t as it was read
-  module _ {e : ℕ} (entry : e ≡ track_entry b t) (z : f.number ≡ 0) where
+  -- nothing refuses it, and e is the entry of track t as it was read
+  module _ {e : ℕ} (q : none ≡ rewrite_fault v b t k ws) (entry : e ≡ track_entry b t) where
+    allowed : passes (rewrite_fault v b t k ws) ≡ true
+    allowed = eq-eqb (rewrite_fault v b t k ws).number 0 (ap (λ (f : Fault). f.number) (sym q))
+
     pub patchable : Patchable b e k (length ws)
-    patchable =
-        let a = accepted v b t k ws (eq-eqb (rewrite_fault v b t k ws).number 0 (sym number_is ∙ z)) in
-        subst⁻¹ (λ (x : ℕ). Patchable b x k (length ws)) entry (lies v b t k 0 ws a)
+    patchable = subst⁻¹ (λ (x : ℕ). Patchable b x k (length ws)) entry (lies v b t k 0 ws (accepted v b t k ws allowed))
 
-    pub leaves_rewritten : (d : ℕ) {p : List ℕ} → p ≡ summed b (patched b e k d ws) → p ≡ after_rewrite v b t k d ws
+    pub leaves_rewritten : {p : List ℕ} → p ≡ summed b (patched b e k d ws) → p ≡ after_rewrite v b t k d ws
     unfolding after_rewrite
-    leaves_rewritten d h =
-        h ∙ ap (λ (x : ℕ). summed b (patched b x k d ws)) entry
-        ∙ sym (simp (eq-eqb (rewrite_fault v b t k ws).number 0 (sym number_is ∙ z)))
+    leaves_rewritten h = h ∙ ap (λ (x : ℕ). summed b (patched b x k d ws)) entry ∙ sym (simp allowed)

@@ -1,14 +1,26 @@
 -- The three stores of a patch, one after another, leave the patched image, and the sums that they hand back move the checksum by the
 -- change; a checksum's store where it is due leaves the image summed.
-use Rattle.std.proofs.Common.{◌≡◌, ℕ, ◌+◌, ◌/◌, ◌<◌, ◌≤◌, true, false, List, length, sym, refl, ap, ◌∙◌, arith, le-leb}
+use Rattle.std.proofs.Common.{◌≡◌, ℕ, ◌+◌, ◌-◌, ◌/◌, ◌<◌, ◌≤◌, true, false, List, length, sym, refl, ap, ◌∙◌, arith, le-leb}
 use lib.Seq.{sets, length-sets}
 use Rattle.octets.specs.Numbers.{le_bytes, put_at}
-use Rattle.octets.proofs.Numbers.{le_length}
+use borrow.Rule.Slice.PartMut.{put_mid}
+use Rattle.octets.proofs.Numbers.{le_length, put_part}
 use Rattle.scp_fields.specs.Header.{checksum_at, read_write, stored_sum, true_sum}
 use Rattle.scp_tracks.specs.Tracks.{revolution_at, flux_at}
 use Rattle.scp_rewrite.specs.Rewriting.{patched, moved, moved_sum, summed}
 use Rattle.scp_rewrite.specs.Steps.{Patchable, Stored}
 use Rattle.scp_rewrite.proofs.Moving.{Moved, moved_next, moved_end}
+
+-- ---- bytes put where they fit
+
+put_fits : (b vs : List ℕ) (i : ℕ) → i + length vs ≤ length b → put_at b i vs ≡ sets b i vs
+put_fits b vs i h = simp (le-leb (i + length vs) (length b) h)
+
+-- a part of the image made vs
+pub put_whole : (b vs part : List ℕ) (i : ℕ) → i + length vs ≤ length b → part ≡ vs → put_mid i (i + length vs - i) b part ≡ sets b i vs
+put_whole b vs part i h same = put_part b vs part i (length vs) refl h same ∙ put_fits b vs i h
+
+-- ---- the three stores
 
 stored_size : {p vs q : List ℕ} {i s r : ℕ} → Stored p i vs s q r → length q ≡ length p
 stored_size {p} {vs} {q} {i} st = ap length st.bytes ∙ length-sets p i vs
@@ -49,7 +61,5 @@ module _ (b p q : List ℕ) (left : q ≡ p) where
   unfolding summed
   summed_put {r} {m} f h e put =
       let room : checksum_at + length (le_bytes 4 m) ≤ length q = rw (le_length 4 m) h in
-      let done : put_at q checksum_at (le_bytes 4 m) ≡ sets q checksum_at (le_bytes 4 m) =
-      simp (le-leb (checksum_at + length (le_bytes 4 m)) (length q) room) in
-      put ∙ done ∙ ap (λ (y : List ℕ). sets y checksum_at (le_bytes 4 m)) left ∙ ap (λ (y : ℕ). sets p checksum_at (le_bytes 4 y)) e
+      put ∙ put_fits q (le_bytes 4 m) checksum_at room ∙ ap (λ (y : List ℕ). sets y checksum_at (le_bytes 4 m)) left ∙ ap (λ (y : ℕ). sets p checksum_at (le_bytes 4 y)) e
       ∙ sym (simp f)

@@ -22,7 +22,7 @@ fn store(image: &mut [u8], at: usize, bytes: &[u8], sum: u32) -> u32
 {
     let end = at + bytes.len();
     let old = octets::byte_sum(&image[at..end]);
-    copies::copy(image, at, bytes);
+    image[at..end].copy_from_slice(bytes);
     let new = octets::byte_sum(bytes);
     sum.wrapping_add(new).wrapping_sub(old)
 }

@@ -15,8 +15,22 @@ use Rattle.scp_fields.specs.Header.{footer_size, has_footer}
 use Rattle.scp_fields.specs.Footer.{footer_at}
 use Rattle.scp_tracks.specs.Tracks.{header_size, revolution_at}
 use Rattle.scp_sharing.specs.Extents.{extent, between, any_of, joined}
-use Rattle.scp_sharing.specs.Claims.{flux_extent, header_claims, flux_claim, flux_claims, track_claim, track_claims, string_claim, string_claims, footer_claims, claims}
+use Rattle.scp_sharing.specs.Claims.{hit, flux_extent, header_claims, flux_claim, flux_claims, track_claim, track_claims, string_claim, string_claims, footer_claims, claims}
 use Rattle.scp_sharing.specs.declared.Extent.{Extent}
+use Rattle.scp_sharing.specs.declared.Stand.{Stand}
+
+-- ---- extents
+
+pub extent_is : {s s' n n' : ℕ} → s ≡ s' → n ≡ n' → extent s n ≡ extent s' n'
+extent_is {s} {s'} {n} {n'} e f = cc
+
+-- the first of two tests says yes, and p is what it says
+pub or_here : {p x : Bool} (y : Bool) → p ≡ x → p ≡ true → p ≡ (x || y)
+or_here {p} {x} y e t = let yes : x ≡ true = sym e ∙ t in t ∙ sym (simp yes)
+
+-- the first says no, and q is what the second says
+pub or_next : {p q x y : Bool} → p ≡ x → p ≡ false → q ≡ y → q ≡ (x || y)
+or_next {p} {q} {x} {y} e f g = let no : x ≡ false = sym e ∙ f in g ∙ sym (simp no)
 
 module _ (p : Extent → Bool) where
   -- ---- lists
@@ -101,3 +115,13 @@ module _ (p : Extent → Bool) where
         → any_of p (claims v b t k) ≡ (p (extent 0 (table_end v)) || (any_of p (track_claims v b t k) || any_of p (footer_claims v b)))
     unfolding claims any_of
     claims_parts t k = ap (λ (z : Bool). p (extent 0 (table_end v)) || z) (any_append (track_claims v b t k) (footer_claims v b))
+
+-- ---- a track header as the walk takes it: at is where the record stands, n the header's size
+
+module _ (s : Stand) (b : List ℕ) (t k u e : ℕ) {n : ℕ} where
+  pub own_parts : {at : ℕ} {x y : Extent} → u ≡ t → at ≡ revolution_at e k → n ≡ header_size b → x ≡ between e at → y ≡ between (at + 8) (e + n)
+      → (hit s x || hit s y) ≡ any_of (hit s) (header_claims b t k u e)
+  own_parts {at} {x} {y} own a z before behind = let parts = header_own (hit s) b t k u e own in cc
+
+  pub other_hit : {p : Bool} → u ≢ t → n ≡ header_size b → p ≡ hit s (extent e n) → p ≡ any_of (hit s) (header_claims b t k u e)
+  other_hit other z h = h ∙ ap (λ (i : ℕ). hit s (extent e i)) z ∙ sym (header_other (hit s) b t k u e other)

@@ -152,7 +152,6 @@ fn stand_of(image: &[u8], e: u32, k: u32) -> Stand
 
 impl Search<'_> {
     // The header of a track: the rewrite's own but for the 8 bytes, another's whole.
-    #[tactic(auto, unfolding(crate::specs::Claims::header_claims, crate::specs::Extents::any_of))]
     fn header_hit(&self, t: Track) -> bool
         ensures { result ≡ any_of (hit self.now.stand) (header_claims self.now.image.now self.now.track self.now.revolution t.number t.entry) }
     {
@@ -169,7 +168,6 @@ impl Search<'_> {
 
     // The flux of revolution j of a track; never the rewrite's own. Most flux lies behind or before all that the rewrite stands on, and is not
     // looked at further.
-    #[tactic(auto, unfolding(crate::specs::Claims::flux_claim, crate::specs::Extents::any_of))]
     fn flux_hit(&self, t: Track, j: u32) -> bool
         ensures { result ≡ any_of (hit self.now.stand) (flux_claim self.now.image.now self.now.track self.now.revolution t.number t.entry j) }
     {
@@ -225,7 +223,6 @@ impl Search<'_> {
     }
 
     // The string at offset o, with its length and its zero byte.
-    #[tactic(auto, unfolding(crate::specs::Claims::string_claim, crate::specs::Extents::any_of))]
     fn string_hit(&self, o: u32) -> bool
         ensures { result ≡ any_of (hit self.now.stand) (string_claim self.now.image.now o) }
     {
@@ -251,7 +248,6 @@ impl Search<'_> {
     }
 
     // The footer and its strings.
-    #[tactic(auto, using(crate::proofs::ClaimLaws::footer_none, crate::proofs::ClaimLaws::footer_parts))]
     fn footer_hit(&self) -> bool
         ensures { result ≡ any_of (hit self.now.stand) (footer_claims self.now.edition self.now.image.now) }
     {
@@ -266,7 +262,6 @@ impl Search<'_> {
     }
 
     // All claims.
-    #[tactic(auto, using(crate::proofs::ClaimLaws::claims_parts))]
     fn claims_hit(&self) -> bool
         ensures { result ≡ any_of (hit self.now.stand) (claims self.now.edition self.now.image.now self.now.track self.now.revolution) }
     {
@@ -278,7 +273,6 @@ impl Search<'_> {
     }
 
     // Whether a byte that the rewrite stands on is claimed twice (W-5).
-    #[tactic(auto, unfolding(crate::specs::Claims::shared))]
     fn is_shared(&self) -> bool
         ensures { result ≡ shared self.now.edition self.now.image.now self.now.stand self.now.track self.now.revolution }
     {

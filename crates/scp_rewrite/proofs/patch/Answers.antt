@@ -1,14 +1,9 @@
 -- The stores are those of the definition, one after another, and each moves the sum.
 use Rattle.std.proofs.Common.{ℕ, ◌+◌, ap, ◌∙◌, rules}
-use Rattle.scp_tracks.specs.declared.RevolutionData.{RevolutionData}
 use Rattle.octets.proofs.Numbers.{le32_put}
+use Rattle.scp_tracks.specs.declared.RevolutionData.{RevolutionData}
 use Rattle.scp_rewrite.proofs.Patching.{patch_left, patch_moved}
 use Rattle.scp_rewrite.proofs.patch.Goals as goal
-
-pub store-worded-requires : goal.store-worded-requires
-store-worded-requires c =
-    let far = ap (λ (d : RevolutionData). d.offset.0) c.revolution_data-data.ensures.0 in
-    search rules
 
 pub returns : goal.returns
 returns c =
