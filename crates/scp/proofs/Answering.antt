@@ -8,9 +8,10 @@ use lib.Dec.{eqb}
 use lib.IntN.{ℤ}
 use lib.Ieee.{Float}
 use borrow.Author.Tests.{eq-eqb, ne_eqb}
+use Rattle.std.specs.Prelude.{Result, Ok, Err, Option, Some}
+use Rattle.std.specs.Prelude as std
 use Rattle.flux.specs.Answers.{Filling, refuses}
-use Rattle.refusals.specs.Refusals.{Fault}
-use Rattle.refusals.specs.Refusals.{refusal, passes, refuse_if}
+use Rattle.refusals.specs.Refusals.{Fault, refusal, passes, refuse_if}
 use Rattle.refusals.specs.Refusals as refusals
 use Rattle.scp_fields.specs.declared.Edition.{Edition}
 use Rattle.scp_fields.specs.Header.{stored_sum, track_entry}
@@ -20,13 +21,10 @@ use Rattle.scp_tracks.specs.Revolutions.{data_of}
 use Rattle.scp_tracks.specs.declared.RevolutionData.{RevolutionData}
 use Rattle.scp_lookup.specs.Questions.{track_question, revolution_question}
 use Rattle.scp_lookup.specs.Lookups.{found_track, found_revolution, track_on, flux_of, part_of, start_of}
-use Rattle.scp_lookup.specs.declared.Entry.TheVariants as entry
-use Rattle.scp_lookup.specs.declared.RevolutionAnswer.{RevolutionAnswer}
-use Rattle.scp_lookup.specs.declared.RevolutionAnswer.TheVariants as revolution-answer
+use Rattle.scp_speed.specs.declared.TrackSpeeds.{TrackSpeeds}
 use Rattle.scp_speed.specs.Speeds.{rpm_of, speed_of}
-use Rattle.scp_speed.specs.declared.Speed.TheVariants as speed
 use Rattle.scp.specs.Validating.{wanted_sum, bad_sum, validate_fault}
-use Rattle.scp.specs.Answers.{Answer, refused, none, footer, speeds, bytes, unless, of_track, track_values, track_answer, of_speed_only, of_revolution, revolution_values, revolution_answer, flux_answer, read_from}
+use Rattle.scp.specs.Answers.{Answer, refused, none, footer, speeds, bytes, unless, of_track, track_values, track_answer, of_speed_only, of_track_speed, of_speed_range, of_revolution, revolution_values, revolution_answer, flux_answer, read_from}
 
 -- ---- an answer, unless it is refused
 
@@ -64,13 +62,18 @@ pub footer_same : {o o' p p' q q' r r' s s' t t' : ℕ} {x x' y y' : ℤ} (vs : 
 footer_same vs eo ep eq er es et ex ey = cc
 
 -- the answer of a speed
-speed_by : (x : Bool) (d : ℕ) → of_speed_only (cond x speed.None (speed.Rpm (rpm_of d))) ≡ cond x none (speeds (rpm_of d ∷ []))
+speed_by : (x : Bool) (d : ℕ) → of_speed_only (cond x std.None (Some (rpm_of d))) ≡ cond x none (speeds (rpm_of d ∷ []))
 speed_by true d = refl
 speed_by false d = refl
 
 pub speed_is : (d : ℕ) → of_speed_only (speed_of d) ≡ cond (eqb d 0) none (speeds (rpm_of d ∷ []))
 unfolding speed_of
 speed_is d = speed_by (eqb d 0) d
+
+-- the answer of a track's speeds
+pub speeds_told : (o : Option TrackSpeeds) → of_track_speed (Ok o) ≡ of_speed_range o
+speeds_told (Some s) = refl
+speeds_told std.None = refl
 
 -- two speeds that are equal
 pub speeds_same : {x x' y y' : Float} → x ≡ x' → y ≡ y' → speeds (x ∷ y ∷ []) ≡ speeds (x' ∷ y' ∷ [])
@@ -80,12 +83,12 @@ speeds_same ex ey = cc
 
 -- the number and the values of a track that q finds or refuses
 module _ (b : List ℕ) (t : ℕ) (q : Fault) where
-  track_by : (x : Bool) → of_track (track_on b t (cond x (entry.At (track_entry b t)) (entry.Refused q)))
+  track_by : (x : Bool) → of_track (track_on b t (cond x (Ok (track_entry b t)) (Err q)))
       ≡ cond x (track_values b t) (refused q.number q.position)
   track_by true = refl
   track_by false = refl
 
-  pub track_told : of_track (track_on b t (refusals.unless q (entry.At (track_entry b t)) entry.Refused)) ≡ unless q (track_values b t)
+  pub track_told : of_track (track_on b t (refusals.unless q (Ok (track_entry b t)) Err)) ≡ unless q (track_values b t)
   track_told = track_by (passes q)
 
 pub track_answer_is : (v : Edition) (b : List ℕ) (t : ℕ) → of_track (track_on b t (found_track v b t)) ≡ track_answer v b t
@@ -95,8 +98,8 @@ track_answer_is v b t = track_told b t (track_question v b t)
 -- of a revolution that q finds or refuses, and of its flux
 module _ (b : List ℕ) (t k : ℕ) (q : Fault) where
   -- the revolution as q has it
-  abbrev told : Bool → RevolutionAnswer
-  told x = cond x (revolution-answer.Found (data_of b (track_entry b t) k)) (revolution-answer.Refused q)
+  abbrev told : Bool → Result RevolutionData Fault
+  told x = cond x (Ok (data_of b (track_entry b t) k)) (Err q)
 
   -- the answer a as q has it
   abbrev answered : Answer → Bool → Answer
@@ -112,22 +115,22 @@ module _ (b : List ℕ) (t k : ℕ) (q : Fault) where
   abbrev flux_by : Bool → Answer
   flux_by x = answered (bytes (start_of (told x)) (part_of b (told x))) x
 
-  found_by : (x : Bool) (d : RevolutionData) → of_revolution (revolution-answer.Found d) ≡ answered (revolution_values b t k) x
+  found_by : (x : Bool) (d : RevolutionData) → of_revolution (Ok d) ≡ answered (revolution_values b t k) x
       → bytes d.offset.0 (flux_of b d) ≡ flux_by x
   found_by true d e = cc
   found_by false d e = let z : ◌≡◌ {A = ℕ} 0 1 = cc in absurd (omega arith)
 
-  refused_by : (x : Bool) (r : Fault) → of_revolution (revolution-answer.Refused r) ≡ answered (revolution_values b t k) x
+  refused_by : (x : Bool) (r : Fault) → of_revolution (Err r) ≡ answered (revolution_values b t k) x
       → refused r.number r.position ≡ flux_by x
   refused_by true r e = let z : ◌≡◌ {A = ℕ} 0 1 = cc in absurd (omega arith)
   refused_by false r e = e
 
   -- the flux that is answered, by what asking for the revolution gave
-  pub flux_told : (d : RevolutionData) → of_revolution (revolution-answer.Found d) ≡ unless q (revolution_values b t k)
+  pub flux_told : (d : RevolutionData) → of_revolution (Ok d) ≡ unless q (revolution_values b t k)
       → bytes d.offset.0 (flux_of b d) ≡ flux_by (passes q)
   flux_told = found_by (passes q)
 
-  pub flux_untold : (r : Fault) → of_revolution (revolution-answer.Refused r) ≡ unless q (revolution_values b t k)
+  pub flux_untold : (r : Fault) → of_revolution (Err r) ≡ unless q (revolution_values b t k)
       → refused r.number r.position ≡ flux_by (passes q)
   flux_untold = refused_by (passes q)
 
@@ -136,21 +139,21 @@ module _ (v : Edition) (b : List ℕ) (t k : ℕ) where
   unfolding found_revolution revolution_answer
   answer_is = revolution_told b t k (revolution_question v b t k)
 
-  pub flux_found : (d : RevolutionData) → of_revolution (revolution-answer.Found d) ≡ revolution_answer v b t k
+  pub flux_found : (d : RevolutionData) → of_revolution (Ok d) ≡ revolution_answer v b t k
       → bytes d.offset.0 (flux_of b d) ≡ flux_answer v b t k
   unfolding found_revolution revolution_answer
   flux_found = flux_told b t k (revolution_question v b t k)
 
-  pub flux_refused : (r : Fault) → of_revolution (revolution-answer.Refused r) ≡ revolution_answer v b t k
+  pub flux_refused : (r : Fault) → of_revolution (Err r) ≡ revolution_answer v b t k
       → refused r.number r.position ≡ flux_answer v b t k
   unfolding found_revolution revolution_answer
   flux_refused = flux_untold b t k (revolution_question v b t k)
 
 -- ---- what is read of a revolution's flux, of one that is found and of one that is refused
 
-module _ (read : List ℕ → ℕ → Filling) (b : List ℕ) (places : ℕ) {r : RevolutionAnswer} where
-  pub read_found : {s : List ℕ} {d : RevolutionData} → s ≡ flux_of b d → revolution-answer.Found d ≡ r → read s places ≡ read_from read b places r
+module _ (read : List ℕ → ℕ → Filling) (b : List ℕ) (places : ℕ) {r : Result RevolutionData Fault} where
+  pub read_found : {s : List ℕ} {d : RevolutionData} → s ≡ flux_of b d → Ok d ≡ r → read s places ≡ read_from read b places r
   read_found e found = ap (λ (s : List ℕ). read s places) e ∙ ap (read_from read b places) found
 
-  pub read_refused : {f : Fault} → revolution-answer.Refused f ≡ r → refuses f.number f.position ≡ read_from read b places r
+  pub read_refused : {f : Fault} → Err f ≡ r → refuses f.number f.position ≡ read_from read b places r
   read_refused found = ap (read_from read b places) found

@@ -1,38 +1,23 @@
 -- What each call on an image answers, by the edition that it names: a definition gives the number and the values of each case (A-2).
-use Rattle.std.specs.Prelude.{ℕ, ◌+◌, min, List, [], ◌∷◌, cond, length, eqb, ℤ, Float}
-use Rattle.refusals.specs.Refusals.{Fault}
+use Rattle.std.specs.Prelude.{ℕ, ◌+◌, min, List, [], ◌∷◌, cond, length, eqb, ℤ, Float, Result, Ok, Err, Option, Some}
+use Rattle.std.specs.Prelude as std
 use Rattle.flux.specs.Answers.{Filling, refuses, reading, closing_reading}
 use Rattle.octets.specs.Numbers.{byte_at, le64_at}
-use Rattle.refusals.specs.Refusals.{passes}
+use Rattle.refusals.specs.Refusals.{Fault, passes}
 use Rattle.scp_fields.specs.declared.Edition.{Edition}
 use Rattle.scp_fields.specs.Header.{version, disk, revolutions, start_track, end_track, flags, has_footer, width, heads, stored_sum, track_entry}
 use Rattle.scp_fields.specs.Footer.{footer_at, string_entry}
 use Rattle.scp_open.specs.declared.Header.{Header}
-use Rattle.scp_speed.specs.declared.Speed.{Speed}
-use Rattle.scp_speed.specs.declared.Speed.TheVariants as speed
 use Rattle.scp_tracks.specs.Tracks.{cylinder_of, head_of, duration_at, count_at, flux_at}
 use Rattle.scp_open.specs.Opening.{open_fault}
 use Rattle.scp_speed.specs.Speeds.{rpm_of, speeds_of}
-use Rattle.scp_speed.specs.declared.SpeedRange.{SpeedRange}
-use Rattle.scp_speed.specs.declared.SpeedRange.TheVariants as range
 use Rattle.scp_lookup.specs.Questions.{track_question, revolution_question}
 use Rattle.scp_lookup.specs.Lookups.{found_revolution, flux_of, part_of, start_of}
 use Rattle.scp.specs.Validating.{validate_fault}
-use Rattle.scp.specs.declared.Validated.{Validated}
-use Rattle.scp.specs.declared.Validated.TheVariants as validated
-use Rattle.scp.specs.declared.HeaderAnswer.{HeaderAnswer}
-use Rattle.scp.specs.declared.HeaderAnswer.TheVariants as header-answer
 use Rattle.scp.specs.declared.FooterData.{FooterData}
-use Rattle.scp.specs.declared.FooterAnswer.{FooterAnswer}
-use Rattle.scp.specs.declared.FooterAnswer.TheVariants as footer-answer
-use Rattle.scp_lookup.specs.declared.TrackAnswer.{TrackAnswer}
-use Rattle.scp_lookup.specs.declared.TrackAnswer.TheVariants as track-answer
-use Rattle.scp_lookup.specs.declared.RevolutionAnswer.{RevolutionAnswer}
-use Rattle.scp_lookup.specs.declared.RevolutionAnswer.TheVariants as revolution-answer
-use Rattle.scp.specs.declared.SpeedAnswer.{SpeedAnswer}
-use Rattle.scp.specs.declared.SpeedAnswer.TheVariants as speed-answer
-use Rattle.scp.specs.declared.TrackSpeedAnswer.{TrackSpeedAnswer}
-use Rattle.scp.specs.declared.TrackSpeedAnswer.TheVariants as track-speed-answer
+use Rattle.scp_lookup.specs.declared.TrackData.{TrackData}
+use Rattle.scp_tracks.specs.declared.RevolutionData.{RevolutionData}
+use Rattle.scp_speed.specs.declared.TrackSpeeds.{TrackSpeeds}
 
 -- A-2: an answer: a refusal's number and position; the plain fact that there is none; or values. Bytes are a part of the image: the file
 -- offset where it starts, and its bytes.
@@ -51,9 +36,9 @@ unless f a = cond (passes f) a (refused f.number f.position)
 -- ---- validating
 
 -- A-6: number and values of each case of validating.
-abbrev pub of_validated : Validated → Answer
-of_validated validated.Valid = numbers []
-of_validated (validated.Refused r) = refused r.number r.position
+abbrev pub of_validated : Result Unit Fault → Answer
+of_validated (Ok u) = numbers []
+of_validated (Err r) = refused r.number r.position
 
 -- R-12, T-14: validating gives no values.
 abbrev pub validate_answer : Edition → List ℕ → Answer
@@ -67,9 +52,9 @@ header_numbers h =
     h.version ∷ h.disk ∷ h.revolutions ∷ h.start ∷ h.end ∷ h.flags ∷ h.width ∷ h.heads ∷ h.checksum ∷ []
 
 -- A-7: number and values of each case of the header.
-abbrev pub of_header : HeaderAnswer → Answer
-of_header (header-answer.Found h) = numbers (header_numbers h)
-of_header (header-answer.Refused r) = refused r.number r.position
+abbrev pub of_header : Result Header Fault → Answer
+of_header (Ok h) = numbers (header_numbers h)
+of_header (Err r) = refused r.number r.position
 
 -- T-3, C-5: version, disk type, revolutions, start, end, flags, width, heads, checksum.
 unfoldable pub header_answer : Edition → List ℕ → Answer
@@ -88,10 +73,10 @@ of_footer_data f =
     (f.software ∷ f.hardware ∷ f.firmware ∷ f.format ∷ [])
 
 -- A-8: number and values of each case of the footer.
-abbrev pub of_footer : FooterAnswer → Answer
-of_footer (footer-answer.Found f) = of_footer_data f
-of_footer footer-answer.None = none
-of_footer (footer-answer.Refused r) = refused r.number r.position
+abbrev pub of_footer : Result (Option FooterData) Fault → Answer
+of_footer (Ok (Some f)) = of_footer_data f
+of_footer (Ok std.None) = none
+of_footer (Err r) = refused r.number r.position
 
 -- T-4: the footer: its six offsets, two times and four version bytes.
 unfoldable pub footer_values : List ℕ → Answer
@@ -108,9 +93,9 @@ footer_answer v b = unless (open_fault v b) (cond (has_footer v b) (footer_value
 -- ---- a track
 
 -- A-9: number and values of each case of a track.
-abbrev pub of_track : TrackAnswer → Answer
-of_track (track-answer.Found d) = numbers (d.cylinder ∷ d.head ∷ d.offset.0 ∷ d.revolutions ∷ [])
-of_track (track-answer.Refused r) = refused r.number r.position
+abbrev pub of_track : Result TrackData Fault → Answer
+of_track (Ok d) = numbers (d.cylinder ∷ d.head ∷ d.offset.0 ∷ d.revolutions ∷ [])
+of_track (Err r) = refused r.number r.position
 
 -- T-5, C-7: the values of track t: cylinder, head, file offset of its header, revolutions.
 abbrev pub track_values : List ℕ → ℕ → Answer
@@ -123,9 +108,9 @@ track_answer v b t = unless (track_question v b t) (track_values b t)
 -- ---- a revolution
 
 -- A-10: number and values of each case of a revolution.
-abbrev pub of_revolution : RevolutionAnswer → Answer
-of_revolution (revolution-answer.Found d) = numbers (d.duration ∷ d.words ∷ d.offset.0 ∷ [])
-of_revolution (revolution-answer.Refused r) = refused r.number r.position
+abbrev pub of_revolution : Result RevolutionData Fault → Answer
+of_revolution (Ok d) = numbers (d.duration ∷ d.words ∷ d.offset.0 ∷ [])
+of_revolution (Err r) = refused r.number r.position
 
 -- T-6, C-8: the values of revolution k of track t: duration, count of words, file offset of its flux.
 abbrev pub revolution_values : List ℕ → ℕ → ℕ → Answer
@@ -152,14 +137,14 @@ flux_answer v b t k = unless (revolution_question v b t k) (bytes (flux_start v 
 -- ---- speeds
 
 -- T-10: a speed in rpm, or none.
-abbrev pub of_speed_only : Speed → Answer
-of_speed_only (speed.Rpm x) = speeds (x ∷ [])
-of_speed_only speed.None = none
+abbrev pub of_speed_only : Option Float → Answer
+of_speed_only (Some x) = speeds (x ∷ [])
+of_speed_only std.None = none
 
 -- A-11: number and values of each case of a speed.
-abbrev pub of_speed : SpeedAnswer → Answer
-of_speed (speed-answer.Found s) = of_speed_only s
-of_speed (speed-answer.Refused r) = refused r.number r.position
+abbrev pub of_speed : Result (Option Float) Fault → Answer
+of_speed (Ok s) = of_speed_only s
+of_speed (Err r) = refused r.number r.position
 
 -- T-10, C-10: a speed in rpm, or the plain fact that there is none, which is so for duration 0.
 unfoldable pub speed_answer : Edition → List ℕ → ℕ → ℕ → Answer
@@ -168,15 +153,15 @@ speed_answer v b t k =
     (cond (eqb (duration_at b (track_entry b t) k) 0) none (speeds (rpm_of (duration_at b (track_entry b t) k) ∷ [])))
 
 -- A-12: number and values of each case of the speeds of a track.
-abbrev pub of_track_speed : TrackSpeedAnswer → Answer
-of_track_speed (track-speed-answer.Found s) = speeds (s.slowest ∷ s.fastest ∷ [])
-of_track_speed track-speed-answer.None = none
-of_track_speed (track-speed-answer.Refused r) = refused r.number r.position
+abbrev pub of_track_speed : Result (Option TrackSpeeds) Fault → Answer
+of_track_speed (Ok (Some s)) = speeds (s.slowest ∷ s.fastest ∷ [])
+of_track_speed (Ok std.None) = none
+of_track_speed (Err r) = refused r.number r.position
 
 -- T-12: number and values of each case of a track's speeds.
-abbrev pub of_speed_range : SpeedRange → Answer
-of_speed_range (range.Speeds s) = speeds (s.slowest ∷ s.fastest ∷ [])
-of_speed_range range.None = none
+abbrev pub of_speed_range : Option TrackSpeeds → Answer
+of_speed_range (Some s) = speeds (s.slowest ∷ s.fastest ∷ [])
+of_speed_range std.None = none
 
 -- T-12, C-10: the slowest and the fastest speed, of the longest and the shortest duration that is not 0, or none if all are 0.
 unfoldable pub track_speed_answer : Edition → List ℕ → ℕ → Answer
@@ -185,9 +170,9 @@ track_speed_answer v b t = unless (track_question v b t) (of_speed_range (speeds
 -- ---- its intervals at one go
 
 -- T-9, T-15: what `read` gives of the flux of a revolution, into so many places; or what refuses the revolution.
-abbrev pub read_from : (List ℕ → ℕ → Filling) → List ℕ → ℕ → RevolutionAnswer → Filling
-read_from read b places (revolution-answer.Found d) = read (flux_of b d) places
-read_from read b places (revolution-answer.Refused r) = refuses r.number r.position
+abbrev pub read_from : (List ℕ → ℕ → Filling) → List ℕ → ℕ → Result RevolutionData Fault → Filling
+read_from read b places (Ok d) = read (flux_of b d) places
+read_from read b places (Err r) = refuses r.number r.position
 
 -- T-9: the intervals of revolution k of track t, into so many places.
 abbrev pub revolution_reading : Edition → List ℕ → ℕ → ℕ → ℕ → Filling

@@ -1,7 +1,6 @@
 -- Validating: 1 to 12 and 19 (R-12, RO-5).
 use Rattle.std.specs.Prelude.{ℕ, List, Bool, not, cond, eqb}
-use Rattle.refusals.specs.Refusals.{Fault}
-use Rattle.refusals.specs.Refusals.{none, refusal, refuse_if, first_of}
+use Rattle.refusals.specs.Refusals.{Fault, none, refusal, refuse_if, first_of}
 use Rattle.scp_fields.specs.declared.Edition.{Edition}
 use Rattle.scp_fields.specs.Header.{read_write, stored_sum, true_sum}
 use Rattle.scp_open.specs.Opening.{open_fault}

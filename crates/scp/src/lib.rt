@@ -3,6 +3,7 @@
 #![tactic(auto)]
 
 ghost use Rattle.std.specs.Prelude.{◌≡◌, ◌+◌, ◌≤◌, length};
+ghost use Rattle.refusals.specs.Refusals.{found};
 ghost use Rattle.scp_fields.specs.Editions.{table_at};
 ghost use Rattle.scp_fields.specs.Header.{footer_size};
 ghost use Rattle.scp.specs.Validating.{wanted_sum};
@@ -10,28 +11,15 @@ ghost use Rattle.flux.specs.Answers.{of_filled, answer_of, buffer_after};
 ghost use Rattle.scp.specs.Answers.{of_validated, validate_answer, of_header, header_answer, of_footer_data, footer_values, of_footer, footer_answer, of_track, track_answer, of_revolution, revolution_answer, flux_part, flux_start, of_speed, speed_answer, of_track_speed, track_speed_answer, revolution_reading, revolution_closed_times, revolution_closed_numbers};
 
 use flux::Filled;
-use refusals::Refusal;
+use refusals::{Reason, Refusal};
 use scp_fields::Edition;
-use scp_lookup::{Entry, RevolutionAnswer, TrackAnswer};
+use scp_lookup::TrackData;
 use scp_open::Header;
-use scp_speed::{Speed, SpeedRange, TrackSpeeds};
-
-// Whether an image is valid.
-#[derive(Clone, Copy)]
-pub enum Validated {
-    Valid,
-    Refused(Refusal),
-}
-
-// The header's fields.
-#[derive(Clone, Copy)]
-pub enum HeaderAnswer {
-    Found(Header),
-    Refused(Refusal),
-}
+use scp_speed::TrackSpeeds;
+use scp_tracks::RevolutionData;
 
 // The footer: six offsets of strings (0: absent), two times in seconds from 1970, four version bytes.
-#[derive(Clone, Copy)]
+#[derive(Clone, Copy, Debug, PartialEq, Eq)]
 pub struct FooterData {
     pub maker: u32,
     pub model: u32,
@@ -45,26 +33,6 @@ pub struct FooterData {
     pub hardware: u8,
     pub firmware: u8,
     pub format: u8,
-}
-
-#[derive(Clone, Copy)]
-pub enum FooterAnswer {
-    Found(FooterData),
-    None,
-    Refused(Refusal),
-}
-
-#[derive(Clone, Copy)]
-pub enum SpeedAnswer {
-    Found(Speed),
-    Refused(Refusal),
-}
-
-#[derive(Clone, Copy)]
-pub enum TrackSpeedAnswer {
-    Found(TrackSpeeds),
-    None,
-    Refused(Refusal),
 }
 
 // ---- validating
@@ -81,35 +49,26 @@ fn wanted_sum(image: &[u8]) -> u32
 }
 
 // Validates an image: refusals 1 to 12 and 19.
-pub fn validate(image: &[u8], edition: Edition) -> Validated
-    ensures { of_validated result ≡ validate_answer edition image.now }
+pub fn validate(image: &[u8], edition: Edition) -> Result<(), Refusal>
+    ensures { of_validated (found result) ≡ validate_answer edition image.now }
 {
-    let opened = scp_open::open(image, edition);
-    let refusal = opened.refusal;
-    if refusal.number != 0 {
-        return Validated::Refused(refusal);
-    }
+    scp_open::first_fault(image, edition, true, 0, scp_fields::slots(edition))?;
     let stored = scp_fields::checksum(image);
     let wanted = wanted_sum(image);
     if stored != wanted {
-        return Validated::Refused(refusals::refuse(refusals::SUM, 0));
+        return Err(Reason::Sum.at(0));
     }
-    Validated::Valid
+    Ok(())
 }
 
 // ---- header and footer
 
 // The header's fields.
-pub fn header(image: &[u8], edition: Edition) -> HeaderAnswer
-    ensures { of_header result ≡ header_answer edition image.now }
+pub fn header(image: &[u8], edition: Edition) -> Result<Header, Refusal>
+    ensures { of_header (found result) ≡ header_answer edition image.now }
 {
-    let opened = scp_open::open(image, edition);
-    let refusal = opened.refusal;
-    if refusal.number != 0 {
-        return HeaderAnswer::Refused(refusal);
-    }
-    let fields = opened.header;
-    HeaderAnswer::Found(fields)
+    let opened = scp_open::open(image, edition)?;
+    Ok(opened.header)
 }
 
 // The footer's numbers.
@@ -134,34 +93,35 @@ fn read_footer(image: &[u8]) -> FooterData
     }
 }
 
-// The footer, or the plain fact that there is none.
-pub fn footer(image: &[u8], edition: Edition) -> FooterAnswer
-    ensures { of_footer result ≡ footer_answer edition image.now }
+// The footer, or none.
+pub fn footer(image: &[u8], edition: Edition) -> Result<Option<FooterData>, Refusal>
+    ensures { of_footer (found result) ≡ footer_answer edition image.now }
 {
-    let opened = scp_open::open(image, edition);
-    let refusal = opened.refusal;
-    if refusal.number != 0 {
-        return FooterAnswer::Refused(refusal);
-    }
+    scp_open::open(image, edition)?;
     if scp_fields::has_footer(image, edition) {
-        return FooterAnswer::Found(read_footer(image));
+        return Ok(Some(read_footer(image)));
     }
-    FooterAnswer::None
+    Ok(None)
 }
 
 // ---- tracks and revolutions
 
 // A track: cylinder, head, where its header starts, revolutions.
-pub fn track(image: &[u8], edition: Edition, track: u32) -> TrackAnswer
-    ensures { of_track result ≡ track_answer edition image.now track }
+pub fn track(image: &[u8], edition: Edition, track: u32) -> Result<TrackData, Refusal>
+    ensures { of_track (found result) ≡ track_answer edition image.now track }
 {
-    let entry = scp_lookup::find_track(image, edition, track);
-    scp_lookup::track_on(image, track, entry)
+    let entry = scp_lookup::find_track(image, edition, track)?;
+    Ok(scp_lookup::track_on(image, track, entry))
 }
 
 // A revolution: duration, words, file offset of its flux.
-pub fn revolution(image: &[u8], edition: Edition, track: u32, revolution: u32) -> RevolutionAnswer
-    ensures { of_revolution result ≡ revolution_answer edition image.now track revolution }
+pub fn revolution(
+    image: &[u8],
+    edition: Edition,
+    track: u32,
+    revolution: u32,
+) -> Result<RevolutionData, Refusal>
+    ensures { of_revolution (found result) ≡ revolution_answer edition image.now track revolution }
 {
     scp_lookup::find_revolution(image, edition, track, revolution)
 }
@@ -182,18 +142,13 @@ pub fn revolution_intervals(
     track: u32,
     revolution: u32,
     times: &mut [u64],
-) -> Filled
+) -> Result<Filled, Refusal>
     ensures result_value { of_filled result ≡ answer_of (revolution_reading edition image.now track revolution (length times.old)) }
     ensures times_after { times.new ≡ buffer_after times.old (revolution_reading edition image.now track revolution (length times.old)) }
 {
-    let found = scp_lookup::find_revolution(image, edition, track, revolution);
-    match found {
-        RevolutionAnswer::Found(data) => {
-            let part = scp_lookup::flux_of(image, data);
-            flux::intervals(part, times)
-        }
-        RevolutionAnswer::Refused(r) => Filled::Refused(r),
-    }
+    let data = scp_lookup::find_revolution(image, edition, track, revolution)?;
+    let part = scp_lookup::flux_of(image, data);
+    flux::intervals(part, times)
 }
 
 // All intervals of a revolution at one go, at the start of the times, and the number of the word that closes each at the start of the closings.
@@ -204,47 +159,39 @@ pub fn revolution_closed_intervals(
     revolution: u32,
     times: &mut [u64],
     closings: &mut [u64],
-) -> Filled
+) -> Result<Filled, Refusal>
     ensures result_value { of_filled result ≡ answer_of (revolution_closed_times edition image.now track revolution times.old closings.old) }
     ensures times_after { times.new ≡ buffer_after times.old (revolution_closed_times edition image.now track revolution times.old closings.old) }
     ensures closings_after { closings.new ≡ buffer_after closings.old (revolution_closed_numbers edition image.now track revolution times.old closings.old) }
 {
-    let found = scp_lookup::find_revolution(image, edition, track, revolution);
-    match found {
-        RevolutionAnswer::Found(data) => {
-            let part = scp_lookup::flux_of(image, data);
-            flux::closed_intervals(part, times, closings)
-        }
-        RevolutionAnswer::Refused(refusal) => Filled::Refused(refusal),
-    }
+    let numbers = scp_lookup::find_revolution(image, edition, track, revolution)?;
+    let part = scp_lookup::flux_of(image, numbers);
+    flux::closed_intervals(part, times, closings)
 }
 
 // ---- speeds
 
-// The drive speed of a revolution.
-pub fn speed(image: &[u8], edition: Edition, track: u32, revolution: u32) -> SpeedAnswer
-    ensures { of_speed result ≡ speed_answer edition image.now track revolution }
+// The drive speed of a revolution, in rpm, or none.
+pub fn speed(
+    image: &[u8],
+    edition: Edition,
+    track: u32,
+    revolution: u32,
+) -> Result<Option<f64>, Refusal>
+    ensures { of_speed (found result) ≡ speed_answer edition image.now track revolution }
 {
-    let found = scp_lookup::find_revolution(image, edition, track, revolution);
-    match found {
-        RevolutionAnswer::Found(data) => SpeedAnswer::Found(scp_speed::speed_of(data.duration)),
-        RevolutionAnswer::Refused(r) => SpeedAnswer::Refused(r),
-    }
+    let record = scp_lookup::find_revolution(image, edition, track, revolution)?;
+    Ok(scp_speed::speed_of(record.duration))
 }
 
-// The slowest and the fastest speed of a track.
-pub fn track_speed(image: &[u8], edition: Edition, track: u32) -> TrackSpeedAnswer
-    ensures { of_track_speed result ≡ track_speed_answer edition image.now track }
+// The slowest and the fastest speed of a track, or none.
+pub fn track_speed(
+    image: &[u8],
+    edition: Edition,
+    track: u32,
+) -> Result<Option<TrackSpeeds>, Refusal>
+    ensures { of_track_speed (found result) ≡ track_speed_answer edition image.now track }
 {
-    let found = scp_lookup::find_track(image, edition, track);
-    match found {
-        Entry::At(entry) => {
-            let speeds = scp_speed::track_speeds(image, entry);
-            match speeds {
-                SpeedRange::Speeds(s) => TrackSpeedAnswer::Found(s),
-                SpeedRange::None => TrackSpeedAnswer::None,
-            }
-        }
-        Entry::Refused(r) => TrackSpeedAnswer::Refused(r),
-    }
+    let header = scp_lookup::find_track(image, edition, track)?;
+    Ok(scp_speed::track_speeds(image, header))
 }
