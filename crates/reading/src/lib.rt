@@ -1,7 +1,7 @@
 // Reading a file or standard input: into a lent buffer, or as bytes of its own.
 #![tactic(auto)]
 
-ghost use Rattle.std.specs.Prelude.{◌≡◌, ◌≤◌, length, take, IfOk, OnErr, vec_len};
+ghost use Rattle.std.specs.Prelude.{◌≡◌, ◌≤◌, length, take, IfOk, IfSome, OnErr, vec_len};
 ghost use Rattle.std.specs.Io.KnownBytes.{Consumes};
 
 use std::alloc::{AllocError, Allocator};
@@ -44,12 +44,30 @@ pub fn read_up_to<R: Read, A: Allocator>(
     Ok(bytes)
 }
 
-// The first bytes of the file of that name, `most` at most.
-pub fn read_file(rt: &(impl Files + AllocGlobal), name: &str, most: usize) -> io::Result<Vec<u8>>
+// Opens the file of that name and reads its first bytes, `most` at most.
+fn read_named(rt: &(impl Files + AllocGlobal), name: &str, most: usize) -> io::Result<Vec<u8>>
     ensures { IfOk result (λ bytes. vec_len bytes ≤ most) }
 {
     let mut file = fs::open(rt, name)?;
     Ok(read_up_to(rt.alloc(), &mut file, most)?)
+}
+
+// The first bytes of the file of that name, `most` at most. Where it cannot be opened, a line on standard error says why.
+pub fn read_file(
+    rt: &(impl Files + AllocGlobal + Eprint),
+    name: &str,
+    most: usize,
+) -> Option<Vec<u8>>
+    ensures { IfSome result (λ bytes. vec_len bytes ≤ most) }
+{
+    match read_named(rt, name, most) {
+        Ok(bytes) => Some(bytes),
+        Err(e) => {
+            // A write that fails is passed over.
+            let _ = eprintln!(rt; "{name}: {e}");
+            None
+        }
+    }
 }
 
 #[cfg(test)]
@@ -71,11 +89,11 @@ mod tests {
     #[test]
     fn file_is_read_so_far(rt: HostRuntime) -> io::Result<()> {
         fs::write(&rt, "seven.txt", "seven")?;
-        let front = read_file(&rt, "seven.txt", 3)?;
-        let whole = read_file(&rt, "seven.txt", 5)?;
+        let front = read_file(&rt, "seven.txt", 3);
         fs::remove_file(&rt, "seven.txt")?;
-        assert_eq!(rt; front.as_slice(), &b"sev"[..]);
-        assert_eq!(rt; whole.as_slice(), &b"seven"[..]);
+        let gone = read_file(&rt, "seven.txt", 3);
+        assert_eq!(rt; front.as_deref(), Some(&b"sev"[..]));
+        assert_eq!(rt; gone.is_none(), true);
         Ok(())
     }
 }
