@@ -8,22 +8,16 @@ ghost use Rattle.scp_direct.specs.Direct.{direct_track, direct_revolution, direc
 ghost use Rattle.boundary.specs.Boundary.{code_of, within, out_after};
 ghost use Rattle.scp_boundary.specs.Boundary.{numbers_of, part_numbers};
 
-use scp_lookup::{RevolutionAnswer, TrackAnswer};
+use scp_fields::Edition;
 
 // A track: cylinder, head, file offset of its header, revolutions.
 pub fn track(image: &[u8], edition: u32, track: u32, out: &mut [u64]) -> u64
     ensures value { result ≡ code_of (within (length out.old) (numbers_of (direct_track (edition_of edition) image.now track))) }
     ensures out_after { out.new ≡ out_after out.old (within (length out.old) (numbers_of (direct_track (edition_of edition) image.now track))) }
 {
-    let named = scp_fields::edition_of(edition as u64);
+    let named = Edition::from(u64::from(edition));
     let found = scp_direct::track(image, named, track);
-    match found {
-        TrackAnswer::Found(d) => {
-            let row = scp_values::track_numbers(d);
-            boundary::give(out, &row)
-        }
-        TrackAnswer::Refused(r) => boundary::code(r),
-    }
+    boundary::answer(out, found.map(scp_values::track_numbers))
 }
 
 // A revolution: duration, words, file offset of its flux.
@@ -31,15 +25,9 @@ pub fn revolution(image: &[u8], edition: u32, track: u32, revolution: u32, out: 
     ensures value { result ≡ code_of (within (length out.old) (numbers_of (direct_revolution (edition_of edition) image.now track revolution))) }
     ensures out_after { out.new ≡ out_after out.old (within (length out.old) (numbers_of (direct_revolution (edition_of edition) image.now track revolution))) }
 {
-    let named = scp_fields::edition_of(edition as u64);
+    let named = Edition::from(u64::from(edition));
     let found = scp_direct::revolution(image, named, track, revolution);
-    match found {
-        RevolutionAnswer::Found(d) => {
-            let row = scp_values::revolution_numbers(d);
-            boundary::give(out, &row)
-        }
-        RevolutionAnswer::Refused(r) => boundary::code(r),
-    }
+    boundary::answer(out, found.map(scp_values::revolution_numbers))
 }
 
 // The flux of a revolution.
@@ -47,11 +35,11 @@ pub fn flux(image: &[u8], edition: u32, track: u32, revolution: u32, out: &mut [
     ensures value { result ≡ code_of (within (length out.old) (numbers_of (direct_flux (edition_of edition) image.now track revolution))) }
     ensures out_after { out.new ≡ out_after out.old (within (length out.old) (numbers_of (direct_flux (edition_of edition) image.now track revolution))) }
 {
-    let named = scp_fields::edition_of(edition as u64);
+    let named = Edition::from(u64::from(edition));
     let answer = scp_direct::revolution(image, named, track, revolution);
     match answer {
-        RevolutionAnswer::Found(d) => boundary::give_bytes(out, scp_lookup::flux_of(image, d)),
-        RevolutionAnswer::Refused(r) => boundary::code(r),
+        Ok(d) => boundary::give(out, scp_lookup::flux_of(image, d)),
+        Err(r) => boundary::code(r),
     }
 }
 
@@ -60,15 +48,14 @@ pub fn flux_part(image: &[u8], edition: u32, track: u32, revolution: u32, out: &
     ensures value { result ≡ code_of (within (length out.old) (part_numbers (direct_flux (edition_of edition) image.now track revolution))) }
     ensures out_after { out.new ≡ out_after out.old (within (length out.old) (part_numbers (direct_flux (edition_of edition) image.now track revolution))) }
 {
-    let named = scp_fields::edition_of(edition as u64);
+    let named = Edition::from(u64::from(edition));
     let asked = scp_direct::revolution(image, named, track, revolution);
     match asked {
-        RevolutionAnswer::Found(d) => {
+        Ok(d) => {
             let offset = d.offset;
             let part = scp_lookup::flux_of(image, d);
-            let row = [offset.0, part.len() as u64];
-            boundary::give(out, &row)
+            boundary::give(out, &[offset.0, part.len() as u64])
         }
-        RevolutionAnswer::Refused(r) => boundary::code(r),
+        Err(r) => boundary::code(r),
     }
 }

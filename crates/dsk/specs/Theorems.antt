@@ -1,14 +1,13 @@
 -- What the definitions of the calls are proved to mean. The proofs stand in proofs/.
-use Rattle.std.specs.Prelude.{ℕ, ◌+◌, ◌≤◌, ◌≡◌, ◌↔◌, List, length}
+use Rattle.std.specs.Prelude.{ℕ, ◌+◌, ◌≤◌, ◌≡◌, ◌↔◌, List, length, Ok}
 use Rattle.dsk_fields.specs.Fields.{info_size, track_size, block_of, data_size, data_at}
 use Rattle.dsk.specs.Questions.{sector_question}
 use Rattle.dsk_check.specs.Validity.{Valid}
 use Rattle.dsk.specs.Answers.{validate_answer, data_part, data_start}
-use Rattle.dsk.specs.declared.Validated.TheVariants as validated
 
 -- DK-8: an image validates exactly if it obeys.
 abbrev pub AcceptsExactly : Type 0
-AcceptsExactly = (b : List ℕ) → (validate_answer b ≡ validated.Valid) ↔ Valid b
+AcceptsExactly = (b : List ℕ) → (validate_answer b ≡ Ok tt) ↔ Valid b
 
 -- DK-7, DK-15: the part handed out for a sector that is not refused starts where its data do; they lie in its block behind the Track Information
 -- Block, and the block in the image; so the part has the whole size of the block's code.

@@ -9,38 +9,38 @@ use lib.ListN.{length, take, drop}
 use lib.Seq.{take-length, drop-length, length-take-le}
 use lib.Dec.{ltb}
 use borrow.Author.Tests.{lt-ltb}
+use Rattle.std.specs.Prelude.{Result, Ok, Err}
+use Rattle.refusals.specs.Refusals.{Fault}
 use Rattle.refusals.specs.Refusals.{none, refusal, refuse_if, unless}
 use Rattle.boundary.specs.Boundary.{within}
 use Rattle.dsk_layout.specs.declared.Layout.{Layout}
 use Rattle.dsk_layout.specs.Layouts.{bad_layout}
 use Rattle.dsk_write.specs.Images.{header_bytes, image_bytes}
 use Rattle.dsk_write.specs.Writing.{write_fault, write_answer, buffer_after}
-use Rattle.dsk_write.specs.declared.Written.{Written}
-use Rattle.dsk_write.specs.declared.Written.TheVariants as written
 use Rattle.dsk_c.specs.Values.{of_written, with_length, write_to}
 
 -- ---- a short `out`
 
 given_by : (y : Bool) (places n : ℕ) → ltb places 1 ≡ y
-    → within places (of_written (cond y (written.Refused (refusal 15 0)) (written.Length n))) ≡ of_written (cond y (written.Refused (refusal 15 0)) (written.Length n))
+    → within places (of_written (cond y (Err (refusal 15 0)) (Ok n))) ≡ of_written (cond y (Err (refusal 15 0)) (Ok n))
 given_by true places n e = refl
 given_by false places n e = simp e
 
 -- where there is a place for the length it is given
-given : (places : ℕ) (w : Written) → within places (of_written (with_length places w)) ≡ of_written (with_length places w)
-given places (written.Length n) = given_by (ltb places 1) places n refl
-given places (written.Refused r) = refl
+given : (places : ℕ) (w : Result ℕ Fault) → within places (of_written (with_length places w)) ≡ of_written (with_length places w)
+given places (Ok n) = given_by (ltb places 1) places n refl
+given places (Err r) = refl
 
-all_lent : (places : ℕ) (w : Written) → ltb places 1 ≡ false → w ≡ with_length places w
-all_lent places (written.Length n) e = sym (simp e)
-all_lent places (written.Refused r) e = refl
+all_lent : (places : ℕ) (w : Result ℕ Fault) → ltb places 1 ≡ false → w ≡ with_length places w
+all_lent places (Ok n) e = sym (simp e)
+all_lent places (Err r) e = refl
 
 -- ---- the part of the image that is lent
 
 module _ (c : List ℕ) (l : Layout) (d : List ℕ) where
   -- the answer by whether 41 refuses, and by whether there are too few places
-  answer : Bool → Bool → Written
-  answer bad short = unless (refuse_if bad (refusal 41 0) (refuse_if short (refusal 15 0) none)) (written.Length (length (image_bytes c l d))) written.Refused
+  answer : Bool → Bool → Result ℕ Fault
+  answer bad short = unless (refuse_if bad (refusal 41 0) (refuse_if short (refusal 15 0) none)) (Ok (length (image_bytes c l d))) Err
 
   answer_is : (places : ℕ) → write_answer c l d places ≡ answer (bad_layout l (length c) (length d)) (ltb places (length (image_bytes c l d)))
   unfolding write_answer write_fault answer
@@ -78,20 +78,20 @@ module _ (c : List ℕ) (l : Layout) (d : List ℕ) where
   after_by true places old e =
       let bad = bad_layout l (length c) (length d) in
       let is : write_answer c l d 0 ≡ answer bad true = answer_is 0 ∙ ap (answer bad) some in
-      ap (λ (w : Written). buffer_after [] (image_bytes c l d) w ++ old) is ∙ empty_by bad old (image_bytes c l d)
+      ap (λ (w : Result ℕ Fault). buffer_after [] (image_bytes c l d) w ++ old) is ∙ empty_by bad old (image_bytes c l d)
       ∙ ap (buffer_after old (image_bytes c l d)) (sym is ∙ none_lent places (length old) e)
   after_by false places old e =
       rw (take-length old, drop-length old, append-nil) (ap (buffer_after old (image_bytes c l d)) (all_lent places (write_answer c l d (length old)) e))
 
   -- what writing into the first p places answers, and what it leaves there, said of the whole image
   module _ (old : List ℕ) (places p : ℕ) (e : p ≡ cond (ltb places 1) 0 (length old)) (h : p ≤ length old) where
-    pub lent_given : {w : Written} → w ≡ write_answer c l d (length (take p old)) → within places (of_written w) ≡ of_written (write_to c l d (length old) places)
+    pub lent_given : {w : Result ℕ Fault} → w ≡ write_answer c l d (length (take p old)) → within places (of_written w) ≡ of_written (write_to c l d (length old) places)
     lent_given said =
-        ap (λ (w : Written). within places (of_written w))
+        ap (λ (w : Result ℕ Fault). within places (of_written w))
         (said ∙ ap (write_answer c l d) (length-take-le p old h ∙ e) ∙ answer_by (ltb places 1) places (length old) refl)
         ∙ given places (write_answer c l d (length old))
 
-    pub lent_after : {w : Written} {part : List ℕ} → w ≡ write_answer c l d (length (take p old)) → part ≡ buffer_after (take p old) (image_bytes c l d) w
+    pub lent_after : {w : Result ℕ Fault} {part : List ℕ} → w ≡ write_answer c l d (length (take p old)) → part ≡ buffer_after (take p old) (image_bytes c l d) w
         → part ++ drop p old ≡ buffer_after old (image_bytes c l d) (write_to c l d (length old) places)
     lent_after said left =
         ap (λ (x : List ℕ). x ++ drop p old) (left ∙ ap (buffer_after (take p old) (image_bytes c l d)) (said ∙ ap (write_answer c l d) (length-take-le p old h)))

@@ -1,2 +1,3 @@
 pub mod UncutCodes
 pub mod LentImage
+pub mod Rows

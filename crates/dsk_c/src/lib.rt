@@ -2,27 +2,30 @@
 // buffer. A slice passes as a pointer and a length (include/dsk.h).
 #![tactic(auto)]
 
-ghost use Rattle.std.specs.Prelude.{◌≡◌, length};
+ghost use Rattle.std.specs.Prelude.{◌≡◌, [], ◌∷◌, length};
 ghost use Rattle.boundary.specs.Boundary.{code_of, within, out_after};
 ghost use Rattle.dsk.specs.Answers.{validate_answer, geometry_answer, block_answer, sector_answer};
 ghost use Rattle.dsk_layout.specs.Layouts.{layout_of};
 ghost use Rattle.dsk_write.specs.Images.{image_bytes};
 ghost use Rattle.dsk_write.specs.Writing.{buffer_after};
-ghost use Rattle.dsk_c.specs.Values.{of_validated, of_geometry, of_block, of_sector, of_written, write_to};
+ghost use Rattle.dsk_c.specs.Values.{of_validated, geometry_numbers, of_geometry, block_numbers, of_block, sector_numbers, of_sector, of_written, write_to};
 
-use dsk::{BlockAnswer, GeometryAnswer, SectorAnswer, Validated};
-use dsk_write::Written;
+use dsk::{DiskGeometry, SectorInfo, TrackBlock};
+use dsk_layout::LayoutNumbers;
 
 // Validates the image: refusals 30 to 35.
 #[unsafe(no_mangle)]
 pub extern "C" fn dsk_validate(image: &[u8]) -> u64
     ensures { result ≡ code_of (of_validated (validate_answer image.now)) }
 {
-    let found = dsk::validate(image);
-    match found {
-        Validated::Valid => 0,
-        Validated::Refused(r) => boundary::code(r),
-    }
+    boundary::code_of(dsk::validate(image))
+}
+
+// Tracks, sides, track size.
+fn geometry_numbers(g: DiskGeometry) -> [u64; 3]
+    ensures { result ≡ geometry_numbers g }
+{
+    [u64::from(g.tracks), u64::from(g.sides), u64::from(g.size)]
 }
 
 // The geometry: tracks, sides, track size.
@@ -31,14 +34,19 @@ pub extern "C" fn dsk_geometry(image: &[u8], out: &mut [u64]) -> u64
     ensures value { result ≡ code_of (within (length out.old) (of_geometry (geometry_answer image.now))) }
     ensures out_after { out.new ≡ out_after out.old (within (length out.old) (of_geometry (geometry_answer image.now))) }
 {
-    let found = dsk::geometry(image);
-    match found {
-        GeometryAnswer::Found(g) => {
-            let row = [g.tracks as u64, g.sides as u64, g.size as u64];
-            boundary::give(out, &row)
-        }
-        GeometryAnswer::Refused(r) => boundary::code(r),
-    }
+    boundary::answer(out, dsk::geometry(image).map(geometry_numbers))
+}
+
+// Number of sectors, size code N, gap, filler.
+fn block_numbers(d: TrackBlock) -> [u64; 4]
+    ensures { result ≡ block_numbers d }
+{
+    [
+        u64::from(d.sectors),
+        u64::from(d.code),
+        u64::from(d.gap),
+        u64::from(d.filler),
+    ]
 }
 
 // A track block: number of sectors, size code N, gap, filler.
@@ -47,19 +55,23 @@ pub extern "C" fn dsk_block(image: &[u8], track: u32, side: u32, out: &mut [u64]
     ensures value { result ≡ code_of (within (length out.old) (of_block (block_answer image.now track side))) }
     ensures out_after { out.new ≡ out_after out.old (within (length out.old) (of_block (block_answer image.now track side))) }
 {
-    let found = dsk::block(image, track, side);
-    match found {
-        BlockAnswer::Found(d) => {
-            let row = [
-                d.sectors as u64,
-                d.code as u64,
-                d.gap as u64,
-                d.filler as u64,
-            ];
-            boundary::give(out, &row)
-        }
-        BlockAnswer::Refused(r) => boundary::code(r),
-    }
+    boundary::answer(out, dsk::block(image, track, side).map(block_numbers))
+}
+
+// C, H, R, N, ST1, ST2, file offset and length of the data.
+fn sector_numbers(d: SectorInfo) -> [u64; 8]
+    ensures { result ≡ sector_numbers d }
+{
+    [
+        u64::from(d.cylinder),
+        u64::from(d.head),
+        u64::from(d.id),
+        u64::from(d.code),
+        u64::from(d.status1),
+        u64::from(d.status2),
+        d.offset,
+        d.length,
+    ]
 }
 
 // A sector: C, H, R, N, ST1, ST2, file offset and length of its data.
@@ -74,23 +86,17 @@ pub extern "C" fn dsk_sector(
     ensures value { result ≡ code_of (within (length out.old) (of_sector (sector_answer image.now track side index))) }
     ensures out_after { out.new ≡ out_after out.old (within (length out.old) (of_sector (sector_answer image.now track side index))) }
 {
-    let found = dsk::sector(image, track, side, index);
-    match found {
-        SectorAnswer::Found(d) => {
-            let row = [
-                d.cylinder as u64,
-                d.head as u64,
-                d.id as u64,
-                d.code as u64,
-                d.status1 as u64,
-                d.status2 as u64,
-                d.offset,
-                d.length,
-            ];
-            boundary::give(out, &row)
-        }
-        SectorAnswer::Refused(r) => boundary::code(r),
-    }
+    boundary::answer(
+        out,
+        dsk::sector(image, track, side, index).map(sector_numbers),
+    )
+}
+
+// The length of an image.
+fn length_numbers(n: usize) -> [u64; 1]
+    ensures { result ≡ n ∷ [] }
+{
+    [n as u64]
 }
 
 // Writes an image to the start of `image`; its length to `out`.
@@ -111,23 +117,15 @@ pub extern "C" fn dsk_write(
     ensures image_after { image.new ≡ buffer_after image.old (image_bytes creator.now (layout_of tracks sides sectors code gap filler) content.now) (write_to creator.now (layout_of tracks sides sectors code gap filler) content.now (length image.old) (length out.old)) }
     ensures out_after { out.new ≡ out_after out.old (of_written (write_to creator.now (layout_of tracks sides sectors code gap filler) content.now (length image.old) (length out.old))) }
 {
-    let places = boundary::lent(image.len(), out.len(), 1);
-    let found = dsk_write::write(
-        creator,
+    let numbers = LayoutNumbers {
         tracks,
         sides,
         sectors,
         code,
         gap,
         filler,
-        content,
-        &mut image[..places],
-    );
-    match found {
-        Written::Length(n) => {
-            let row = [n as u64];
-            boundary::give(out, &row)
-        }
-        Written::Refused(r) => boundary::code(r),
-    }
+    };
+    let places = boundary::lent(image.len(), out.len(), 1);
+    let found = dsk_write::write(creator, numbers, content, &mut image[..places]);
+    boundary::answer(out, found.map(length_numbers))
 }

@@ -1,19 +1,18 @@
 -- What 41 refuses: each test of it fails exactly if its rule holds, and what it answers in each case.
 use Prim.Native.Nat.{ℕ, ◌*◌, ◌≤◌}
-use mathlib.Core.Path.{◌≡◌, refl, sym, ap, ◌∙◌}
+use mathlib.Core.Path.{◌≡◌, refl, sym, ◌∙◌}
 use mathlib.Core.Logic.{◌⊎◌, inl, inr, ⊎_map}
 use mathlib.Core.Bool.{Bool, true, false, not, ◌||◌, cond}
 use native.Mathlib.Nat.{mul-le-mul}
 use native.Mathlib.Omega.{arith}
 use lib.Dec.{eqb, ltb}
 use borrow.Author.Tests.{ltb-false, le-ltb, eqb-true, eq-eqb, not-false}
+use Rattle.std.specs.Prelude.{Ok, Err}
 use Rattle.refusals.specs.Refusals.{Fault}
 use Rattle.refusals.specs.Refusals.{refusal}
 use Rattle.refusals.proofs.Finding.{either, neither}
 use Rattle.dsk_layout.specs.declared.Layout.{Layout}
-use Rattle.dsk_layout.specs.declared.LayoutAnswer.{LayoutAnswer}
-use Rattle.dsk_layout.specs.declared.LayoutAnswer.TheVariants as layout-answer
-use Rattle.dsk_layout.specs.Layouts.{layout_of, track_length, all_data, bad_numbers, bad_sizes, bad_layout, refused_layout, layout_answer, Writable, RefusesExactly}
+use Rattle.dsk_layout.specs.Layouts.{layout_of, track_length, all_data, bad_numbers, bad_layout, refused_layout, layout_answer, Writable, RefusesExactly}
 
 -- ---- products that nothing wraps in
 
@@ -121,39 +120,32 @@ module _ (l : Layout) (m n : ℕ) where
 
   -- ---- what is answered
 
-  refused_by : {a : LayoutAnswer} → a ≡ refused_layout → bad_layout l m n ≡ true → a ≡ layout_answer l m n
+  pub refused_by : bad_layout l m n ≡ true → refused_layout ≡ layout_answer l m n
   unfolding layout_answer
-  refused_by e t = e ∙ sym (simp t)
+  refused_by t = sym (simp t)
 
-  pub bad_numbers_lem : {a : LayoutAnswer} → a ≡ refused_layout → bad_numbers l ≡ true → a ≡ layout_answer l m n
-  bad_numbers_lem e t = refused_by e (unfold bad_layout in simp t)
-
-  pub bad_sizes_lem : {a : LayoutAnswer} → a ≡ refused_layout → bad_numbers l ≡ false → bad_sizes l m n ≡ true → a ≡ layout_answer l m n
-  bad_sizes_lem e t u = refused_by e (unfold bad_layout in ap (λ (x : Bool). x || bad_sizes l m n) t ∙ u)
-
-  pub accepted : bad_numbers l ≡ false → bad_sizes l m n ≡ false → layout-answer.Accepted l ≡ layout_answer l m n
-  unfolding layout_answer bad_layout
-  accepted t u = sym (ap (λ (x : Bool). cond x refused_layout (layout-answer.Accepted l)) (ap (λ (x : Bool). x || bad_sizes l m n) t ∙ u))
+  pub accepted_by : bad_layout l m n ≡ false → Ok l ≡ layout_answer l m n
+  unfolding layout_answer
+  accepted_by t = sym (simp t)
 
 -- ---- what an answer says
 
 module _ (l : Layout) (m n : ℕ) where
-  pub accepted_is : {x : Layout} → layout-answer.Accepted x ≡ layout_answer l m n → (x ≡ l) × (bad_layout l m n ≡ false)
+  pub accepted_is : {x : Layout} → Ok x ≡ layout_answer l m n → (x ≡ l) × (bad_layout l m n ≡ false)
   unfolding layout_answer
   accepted_is {x} h = go (bad_layout l m n) h
     where
-      go : (t : Bool) → layout-answer.Accepted x ≡ cond t refused_layout (layout-answer.Accepted l) → (x ≡ l) × (t ≡ false)
-      go true h = let z : ◌≡◌ {A = ℕ} 0 1 = cc in absurd (omega arith)
+      go : (t : Bool) → Ok x ≡ cond t refused_layout (Ok l) → (x ≡ l) × (t ≡ false)
+      go true h = cc
       go false h = (cc, refl)
 
-  pub refused_is : {f : Fault} → layout-answer.Refused f ≡ layout_answer l m n
-      → (f ≡ refusal 41 0) × (bad_layout l m n ≡ true)
+  pub refused_is : {f : Fault} → Err f ≡ layout_answer l m n → (f ≡ refusal 41 0) × (bad_layout l m n ≡ true)
   unfolding layout_answer
   refused_is {f} h = go (bad_layout l m n) h
     where
-      go : (t : Bool) → layout-answer.Refused f ≡ cond t refused_layout (layout-answer.Accepted l) → (f ≡ refusal 41 0) × (t ≡ true)
+      go : (t : Bool) → Err f ≡ cond t refused_layout (Ok l) → (f ≡ refusal 41 0) × (t ≡ true)
       go true h = (cc, refl)
-      go false h = let z : ◌≡◌ {A = ℕ} 0 1 = cc in absurd (omega arith)
+      go false h = cc
 
 pub refuses_exactly : RefusesExactly
 refuses_exactly l m n = (writable l m n, not_refused l m n)

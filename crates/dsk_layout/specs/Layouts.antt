@@ -1,15 +1,19 @@
 -- What a DSK image that is to be written has, how large it is, and what is not written (DK-17 to DK-19, R-41).
-use Rattle.std.specs.Prelude.{ℕ, ◌+◌, ◌*◌, ◌≤◌, ◌≡◌, ◌↔◌, ◌⊎◌, Bool, false, not, ◌||◌, cond, eqb, ltb}
+use Rattle.std.specs.Prelude.{ℕ, ◌+◌, ◌*◌, ◌≤◌, ◌≡◌, ◌↔◌, ◌⊎◌, Bool, false, not, ◌||◌, cond, eqb, ltb, Result, Ok, Err}
+use Rattle.refusals.specs.Refusals.{Fault}
 use Rattle.refusals.specs.Refusals.{refusal}
 use Rattle.dsk_fields.specs.Fields.{info_size, sector_size}
 use Rattle.dsk_layout.specs.declared.Layout.{Layout}
-use Rattle.dsk_layout.specs.declared.LayoutAnswer.{LayoutAnswer}
-use Rattle.dsk_layout.specs.declared.LayoutAnswer.TheVariants as layout-answer
+use Rattle.dsk_layout.specs.declared.LayoutNumbers.{LayoutNumbers}
 
 -- DK-17: tracks, sides, sectors of each block, their size code, gap and filler, as they are asked for.
 abbrev pub layout_of : ℕ → ℕ → ℕ → ℕ → ℕ → ℕ → Layout
 layout_of tracks sides sectors code gap filler =
     record { tracks = tracks; sides = sides; sectors = sectors; code = code; gap = gap; filler = filler }
+
+-- DK-17: the layout of the numbers that are asked for.
+abbrev pub asked_for : LayoutNumbers → Layout
+asked_for n = layout_of n.tracks n.sides n.sectors n.code n.gap n.filler
 
 -- ---- sizes
 
@@ -51,12 +55,12 @@ unfoldable pub bad_layout : Layout → ℕ → ℕ → Bool
 bad_layout l creator_size content_size = bad_numbers l || bad_sizes l creator_size content_size
 
 -- R-41: it is refused at position 0.
-abbrev pub refused_layout : LayoutAnswer
-refused_layout = layout-answer.Refused (refusal 41 0)
+abbrev pub refused_layout : Result Layout Fault
+refused_layout = Err (refusal 41 0)
 
 -- R-41: the layout, unless it is refused.
-unfoldable pub layout_answer : Layout → ℕ → ℕ → LayoutAnswer
-layout_answer l creator_size content_size = cond (bad_layout l creator_size content_size) refused_layout (layout-answer.Accepted l)
+unfoldable pub layout_answer : Layout → ℕ → ℕ → Result Layout Fault
+layout_answer l creator_size content_size = cond (bad_layout l creator_size content_size) refused_layout (Ok l)
 
 -- ---- the same as a list of plain statements
 

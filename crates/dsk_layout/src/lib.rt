@@ -1,10 +1,11 @@
 // What a DSK image that is to be written has, how large it is, and what is not written: 41.
 #![tactic(auto)]
 
-ghost use Rattle.std.specs.Prelude.{◌≡◌, ◌<◌, ◌≤◌};
-ghost use Rattle.dsk_layout.specs.Layouts.{layout_of, track_data, track_length, block_count, image_length, bad_numbers, bad_sizes, refused_layout, layout_answer};
+ghost use Rattle.std.specs.Prelude.{◌≡◌, ◌≤◌};
+ghost use Rattle.refusals.specs.Refusals.{found};
+ghost use Rattle.dsk_layout.specs.Layouts.{asked_for, track_data, track_length, block_count, image_length, bad_numbers, bad_sizes, layout_answer};
 
-use refusals::Refusal;
+use refusals::{Reason, Refusal};
 
 // How many bytes the creator's name has.
 const CREATOR_SIZE: usize = 14;
@@ -20,8 +21,25 @@ const MOST_SECTORS: u32 = 29;
 
 const GREATEST_CODE: u32 = 5;
 
-// Tracks, sides, sectors of each block, their size code, gap and filler.
-#[derive(Clone, Copy)]
+// Refusal 41.
+const REFUSED: Refusal = Refusal {
+    reason: Reason::DskLayout,
+    position: 0,
+};
+
+// Tracks, sides, sectors of each block, their size code, gap and filler, as they are asked for.
+#[derive(Clone, Copy, Debug, PartialEq, Eq)]
+pub struct LayoutNumbers {
+    pub tracks: u32,
+    pub sides: u32,
+    pub sectors: u32,
+    pub code: u32,
+    pub gap: u32,
+    pub filler: u32,
+}
+
+// The same, of an image that can be written.
+#[derive(Clone, Copy, Debug, PartialEq, Eq)]
 pub struct Layout {
     pub tracks: u8,
     pub sides: u8,
@@ -31,104 +49,77 @@ pub struct Layout {
     pub filler: u8,
 }
 
-// A layout that can be written, or why it is refused.
-#[derive(Clone, Copy)]
-pub enum LayoutAnswer {
-    Accepted(Layout),
-    Refused(Refusal),
-}
-
-// A byte as a number of the machine's width.
-fn wide(x: u8) -> usize
-    ensures { (result ≡ x) × (result < 256) }
-{
-    x as usize
-}
-
-// ---- sizes
-
-// How many bytes of data a block has.
-pub fn track_data(layout: Layout) -> usize
-    ensures { (result ≡ track_data layout) × (result ≤ 1_566_720) }
-{
-    wide(layout.sectors) * dsk_fields::sector_size(layout.code)
-}
-
-// The track size: how many bytes a block has.
-pub fn track_size(layout: Layout) -> usize
-    ensures { (result ≡ track_length layout) × (result ≤ 1_566_976) }
-{
-    dsk_fields::INFO_SIZE + track_data(layout)
-}
-
-// How many blocks there are.
-fn block_count(layout: Layout) -> usize
-    ensures { (result ≡ block_count layout) × (result ≤ 65_025) }
-{
-    wide(layout.tracks) * wide(layout.sides)
-}
-
-// How many bytes the image has.
-pub fn image_size(layout: Layout) -> usize
-    ensures { result ≡ image_length layout }
-{
-    dsk_fields::INFO_SIZE + block_count(layout) * track_size(layout)
-}
-
-// ---- 41
-
-// Whether a number of the layout is out of its range.
-fn bad_numbers(tracks: u32, sides: u32, sectors: u32, code: u32, gap: u32, filler: u32) -> bool
-    ensures { result ≡ bad_numbers (layout_of tracks sides sectors code gap filler) }
-{
-    ((tracks < 1) | (GREATEST_BYTE < tracks))
-        | (!((sides == 1) | (sides == 2))
-            | ((MOST_SECTORS < sectors)
-                | ((GREATEST_CODE < code) | ((GREATEST_BYTE < gap) | (GREATEST_BYTE < filler)))))
-}
-
-// Whether the creator has not 14 bytes, the track size is above 65,535, or the data have another length.
-fn bad_sizes(layout: Layout, creator: usize, content: usize) -> bool
-    ensures { result ≡ bad_sizes layout creator content }
-{
-    !(creator == CREATOR_SIZE)
-        | ((GREATEST_TRACK_SIZE < track_size(layout))
-            | !(content == block_count(layout) * track_data(layout)))
-}
-
-// Refusal 41.
-fn refused() -> LayoutAnswer
-    ensures { result ≡ refused_layout }
-{
-    LayoutAnswer::Refused(refusals::refuse(refusals::DSK_LAYOUT, 0))
-}
-
-// The layout of these numbers, for a creator of so many bytes and so many bytes of data: 41.
-pub fn check(
-    creator: usize,
-    tracks: u32,
-    sides: u32,
-    sectors: u32,
-    code: u32,
-    gap: u32,
-    filler: u32,
-    content: usize,
-) -> LayoutAnswer
-    ensures { result ≡ layout_answer (layout_of tracks sides sectors code gap filler) creator content }
-{
-    if bad_numbers(tracks, sides, sectors, code, gap, filler) {
-        return refused();
+impl Layout {
+    // How many bytes of data a block has.
+    pub fn track_data(self) -> usize
+        ensures { (result ≡ track_data self) × (result ≤ 1_566_720) }
+    {
+        usize::from(self.sectors) * dsk_fields::sector_size(self.code)
     }
-    let layout = Layout {
-        tracks: tracks as u8,
-        sides: sides as u8,
-        sectors: sectors as u8,
-        code: code as u8,
-        gap: gap as u8,
-        filler: filler as u8,
-    };
-    if bad_sizes(layout, creator, content) {
-        return refused();
+
+    // The track size: how many bytes a block has.
+    pub fn track_size(self) -> usize
+        ensures { (result ≡ track_length self) × (result ≤ 1_566_976) }
+    {
+        dsk_fields::INFO_SIZE + self.track_data()
     }
-    LayoutAnswer::Accepted(layout)
+
+    // How many blocks there are.
+    fn block_count(self) -> usize
+        ensures { (result ≡ block_count self) × (result ≤ 65_025) }
+    {
+        usize::from(self.tracks) * usize::from(self.sides)
+    }
+
+    // How many bytes the image has.
+    pub fn image_size(self) -> usize
+        ensures { result ≡ image_length self }
+    {
+        dsk_fields::INFO_SIZE + self.block_count() * self.track_size()
+    }
+
+    // Whether the creator has not 14 bytes, the track size is above 65,535, or the data have another length.
+    fn bad_sizes(self, creator: usize, content: usize) -> bool
+        ensures { result ≡ bad_sizes self creator content }
+    {
+        creator != CREATOR_SIZE
+            || GREATEST_TRACK_SIZE < self.track_size()
+            || content != self.block_count() * self.track_data()
+    }
+}
+
+impl LayoutNumbers {
+    // Whether a number is out of its range.
+    fn out_of_range(self) -> bool
+        ensures { result ≡ bad_numbers (asked_for self) }
+    {
+        !(1..=GREATEST_BYTE).contains(&self.tracks)
+            || !matches!(self.sides, 1 | 2)
+            || MOST_SECTORS < self.sectors
+            || GREATEST_CODE < self.code
+            || GREATEST_BYTE < self.gap
+            || GREATEST_BYTE < self.filler
+    }
+
+    // The layout of these numbers, for a creator of so many bytes and so many bytes of data: 41.
+    #[tactic(auto, unfolding(crate::specs::Layouts::layout_answer, crate::specs::Layouts::bad_layout))]
+    pub fn check(self, creator: usize, content: usize) -> Result<Layout, Refusal>
+        ensures { found result ≡ layout_answer (asked_for self) creator content }
+    {
+        if self.out_of_range() {
+            return Err(REFUSED);
+        }
+        let layout = Layout {
+            tracks: self.tracks as u8,
+            sides: self.sides as u8,
+            sectors: self.sectors as u8,
+            code: self.code as u8,
+            gap: self.gap as u8,
+            filler: self.filler as u8,
+        };
+        if layout.bad_sizes(creator, content) {
+            return Err(REFUSED);
+        }
+        Ok(layout)
+    }
 }

@@ -10,6 +10,8 @@ use lib.ListN.{length, take, drop}
 use lib.Seq.{take_all}
 use lib.Dec.{ltb}
 use borrow.Author.Tests.{ltb-false}
+use Rattle.std.specs.Prelude.{Result, Ok, Err}
+use Rattle.refusals.specs.Refusals.{Fault}
 use Rattle.refusals.specs.Refusals.{none, refusal, refuse_if, unless}
 use Rattle.refusals.proofs.Answers.{unless_found}
 use Rattle.dsk_fields.specs.Fields.{info_size, tracks, sides, track_size, block_of, size_code, sectors, data_size, data_at, sector_size}
@@ -19,10 +21,7 @@ use Rattle.dsk_check.proofs.Accepting.{accepts}
 use Rattle.dsk.specs.Questions.{block_question}
 use Rattle.dsk.specs.Answers.{geometry_answer, block_answer, sector_info, sector_answer, part_of, data_part}
 use Rattle.dsk.specs.declared.DiskGeometry.{DiskGeometry}
-use Rattle.dsk.specs.declared.GeometryAnswer.TheVariants as geometry-answer
 use Rattle.dsk.specs.declared.TrackBlock.{TrackBlock}
-use Rattle.dsk.specs.declared.BlockAnswer.TheVariants as block-answer
-use Rattle.dsk.specs.declared.SectorAnswer.TheVariants as sector-answer
 use Rattle.dsk.proofs.Asking.{BlockThere, block_passes}
 use Rattle.dsk.proofs.FoundLaws.{SectorThere, sector_found, accepts_exactly}
 use Rattle.dsk_layout.specs.declared.Layout.{Layout}
@@ -30,7 +29,6 @@ use Rattle.dsk_layout.specs.Layouts.{layout_of, track_data, track_length, block_
 use Rattle.dsk_layout.proofs.LayoutLaws.{writable, refuses_exactly}
 use Rattle.dsk_write.specs.Images.{joined_from, block_offset, image_bytes}
 use Rattle.dsk_write.specs.Writing.{write_fault, write_answer}
-use Rattle.dsk_write.specs.declared.Written.TheVariants as written
 use Rattle.dsk_write.proofs.Sizes.{data_within, image_length_lem}
 use Rattle.dsk_write.proofs.Outcome.{gives_length}
 use Rattle.dsk_theorems.specs.Theorems.{Writes, WritesExactly, all_sectors, ReadsBack, RoundTrip, SameInput, WritesApart, LeavesApart}
@@ -106,10 +104,10 @@ module _ (c : List ℕ) (l : Layout) (d rest : List ℕ) (w : Writable l (length
 
   -- ---- what the calls answer
 
-  geometry_is : geometry_answer b ≡ geometry-answer.Found (record { tracks = l.tracks; sides = l.sides; size = track_length l })
+  geometry_is : geometry_answer b ≡ Ok (record { tracks = l.tracks; sides = l.sides; size = track_length l })
   unfolding geometry_answer
   geometry_is =
-      sym (unless_found (dsk_fault b) _ geometry-answer.Refused (accepts b valid) (ap geometry-answer.Found (cc (tracks_are, sides_are, size_is))))
+      sym (unless_found (dsk_fault b) _ Err (accepts b valid) (ap Ok (cc (tracks_are, sides_are, size_is))))
 
   block_there : (t s : ℕ) → t < l.tracks → s < l.sides → BlockThere b t s
   block_there t s h k =
@@ -118,14 +116,14 @@ module _ (c : List ℕ) (l : Layout) (d rest : List ℕ) (w : Writable l (length
       record { accepted = accepts b valid; track = omega arith; side = omega arith }
 
   block_is : (t s : ℕ) → t < l.tracks → s < l.sides
-      → block_answer b t s ≡ block-answer.Found (record { sectors = l.sectors; code = l.code; gap = l.gap; filler = l.filler })
+      → block_answer b t s ≡ Ok (record { sectors = l.sectors; code = l.code; gap = l.gap; filler = l.filler })
   unfolding block_answer
   block_is t s h k =
       let e = block_of b t s in
       let i = t * l.sides + s in
       let at = there t s h k in
-      sym (unless_found (block_question b t s) _ block-answer.Refused (block_passes b t s (block_there t s h k))
-      (ap block-answer.Found (cc (count_at b l d e t s i few at, code_at b l d e t s i few at, gap_at b l d e t s i few at, filler_at b l d e t s i few at))))
+      sym (unless_found (block_question b t s) _ Err (block_passes b t s (block_there t s h k))
+      (ap Ok (cc (count_at b l d e t s i few at, code_at b l d e t s i few at, gap_at b l d e t s i few at, filler_at b l d e t s i few at))))
 
   sector_there : (t s k : ℕ) → t < l.tracks → s < l.sides → k < l.sectors → SectorThere b t s k
   sector_there t s k h g below =
@@ -134,7 +132,7 @@ module _ (c : List ℕ) (l : Layout) (d rest : List ℕ) (w : Writable l (length
 
   sector_is : (t s k : ℕ) → t < l.tracks → s < l.sides → k < l.sectors
       → sector_answer b t s k
-      ≡ sector-answer.Found (record {
+      ≡ Ok (record {
         cylinder = t;
         head = s;
         id = k + 1;
@@ -155,7 +153,7 @@ module _ (c : List ℕ) (l : Layout) (d rest : List ℕ) (w : Writable l (length
       let start : data_at b e k ≡ block_offset l t s + info_size + k * sector_size l.code =
       ap (λ (x : ℕ). x + info_size + k * data_size b e) (place_is t s) ∙ ap (λ (x : ℕ). block_offset l t s + info_size + k * x) size in
       sector_found b t s k (sector_there t s k h g below)
-      ∙ ap sector-answer.Found (cc (own.track, own.side, own.id, own.code, own.first, own.second, start, size))
+      ∙ ap Ok (cc (own.track, own.side, own.id, own.code, own.first, own.second, start, size))
 
   data_is : (t s k : ℕ) → t < l.tracks → s < l.sides → k < l.sectors
       → data_part b t s k ≡ take (sector_size l.code) (drop (((t * l.sides + s) * l.sectors + k) * sector_size l.code) d)
@@ -213,15 +211,15 @@ module _ (c : List ℕ) (l : Layout) (d rest : List ℕ) (w : Writable l (length
 
 -- ---- when it is written
 
-answered : (c : List ℕ) (l : Layout) (d : List ℕ) (places n : ℕ) → write_answer c l d places ≡ written.Length n → Writes c l d places n
+answered : (c : List ℕ) (l : Layout) (d : List ℕ) (places n : ℕ) → write_answer c l d places ≡ Ok n → Writes c l d places n
 unfolding write_answer write_fault
 answered c l d places n e = by (bad_layout l (length c) (length d)) refl (ltb places (length (image_bytes c l d))) refl e
   where
     by : (x : Bool) → bad_layout l (length c) (length d) ≡ x → (y : Bool) → ltb places (length (image_bytes c l d)) ≡ y
-        → unless (refuse_if x (refusal 41 0) (refuse_if y (refusal 15 0) none)) (written.Length (length (image_bytes c l d))) written.Refused ≡ written.Length n
+        → unless (refuse_if x (refusal 41 0) (refuse_if y (refusal 15 0) none)) (Ok (length (image_bytes c l d))) Err ≡ Ok n
         → Writes c l d places n
-    by true q y r h = unfold refuse_if in (let z : ◌≡◌ {A = ℕ} 0 1 = cc in absurd (omega arith))
-    by false q true r h = unfold refuse_if in (let z : ◌≡◌ {A = ℕ} 0 1 = cc in absurd (omega arith))
+    by true q y r h = unfold refuse_if in cc
+    by false q true r h = unfold refuse_if in cc
     by false q false r h =
         unfold refuse_if in
         (let w = writable l (length c) (length d) q in
@@ -250,11 +248,8 @@ round_trip c l d old n e =
 -- ---- apart
 
 -- what reads back in two ways is the same
-same_geometry : {g h : DiskGeometry} → geometry-answer.Found g ≡ geometry-answer.Found h → g ≡ h
-same_geometry e = cc
-
-same_block : {g h : TrackBlock} → block-answer.Found g ≡ block-answer.Found h → g ≡ h
-same_block e = cc
+same_answer : {A : Type 0} {x y : A} → ◌≡◌ {A = Result A Fault} (Ok x) (Ok y) → x ≡ y
+same_answer e = cc
 
 same_layout : (l m : Layout) → l.tracks ≡ m.tracks → l.sides ≡ m.sides → l.sectors ≡ m.sectors → l.code ≡ m.code → l.gap ≡ m.gap
     → l.filler ≡ m.filler → l ≡ m
@@ -273,10 +268,10 @@ image_reads c l d w =
 apart : (b c : List ℕ) (l : Layout) (d : List ℕ) (c₂ : List ℕ) (l₂ : Layout) (d₂ : List ℕ) → 1 ≤ l.tracks → 1 ≤ l.sides
     → ReadsBack b c l d → ReadsBack b c₂ l₂ d₂ → SameInput c l d c₂ l₂ d₂
 apart b c l d c₂ l₂ d₂ t s p q =
-    let geometry = same_geometry (sym p.geometry ∙ q.geometry) in
+    let geometry = same_answer (sym p.geometry ∙ q.geometry) in
     let tracks = ap (λ (g : DiskGeometry). g.tracks) geometry in
     let sides = ap (λ (g : DiskGeometry). g.sides) geometry in
-    let block = same_block (sym (p.blocks 0 0 (omega arith) (omega arith)) ∙ q.blocks 0 0 (omega arith) (omega arith)) in
+    let block = same_answer (sym (p.blocks 0 0 (omega arith) (omega arith)) ∙ q.blocks 0 0 (omega arith) (omega arith)) in
     let sectors = ap (λ (g : TrackBlock). g.sectors) block in
     let code = ap (λ (g : TrackBlock). g.code) block in
     let gap = ap (λ (g : TrackBlock). g.gap) block in

@@ -1,16 +1,11 @@
 -- What writing and reading a DSK image are proved to be to each other. The proofs stand in proofs/.
-use Rattle.std.specs.Prelude.{ℕ, ◌+◌, ◌*◌, ◌<◌, ◌≤◌, ◌≡◌, ◌↔◌, List, length, take, drop}
+use Rattle.std.specs.Prelude.{ℕ, ◌+◌, ◌*◌, ◌<◌, ◌≤◌, ◌≡◌, ◌↔◌, List, length, take, drop, Ok}
 use Rattle.dsk_fields.specs.Fields.{info_size, sector_size}
 use Rattle.dsk.specs.Answers.{validate_answer, geometry_answer, block_answer, sector_answer, data_part}
-use Rattle.dsk.specs.declared.Validated.TheVariants as validated
-use Rattle.dsk.specs.declared.GeometryAnswer.TheVariants as geometry-answer
-use Rattle.dsk.specs.declared.BlockAnswer.TheVariants as block-answer
-use Rattle.dsk.specs.declared.SectorAnswer.TheVariants as sector-answer
 use Rattle.dsk_layout.specs.declared.Layout.{Layout}
 use Rattle.dsk_layout.specs.Layouts.{track_length, image_length, Writable}
 use Rattle.dsk_write.specs.Images.{joined_from, block_offset, image_bytes}
 use Rattle.dsk_write.specs.Writing.{write_answer, buffer_after}
-use Rattle.dsk_write.specs.declared.Written.TheVariants as written
 
 -- ---- when an image is written
 
@@ -23,7 +18,7 @@ pub record Writes (c : List ℕ) (l : Layout) (d : List ℕ) (places n : ℕ) : 
 -- DK-19: so it is exactly where what is asked for can be written and its image fits.
 abbrev pub WritesExactly : Type 0
 WritesExactly =
-    (c : List ℕ) (l : Layout) (d : List ℕ) (places n : ℕ) → (write_answer c l d places ≡ written.Length n) ↔ Writes c l d places n
+    (c : List ℕ) (l : Layout) (d : List ℕ) (places n : ℕ) → (write_answer c l d places ≡ Ok n) ↔ Writes c l d places n
 
 -- ---- what is written reads back
 
@@ -33,13 +28,13 @@ all_sectors b l = joined_from (λ t. joined_from (λ s. joined_from (data_part b
 
 -- DK-28: the calls on the image b accept it and yield the layout l, each sector's identity, and the data d; the creator c stands at 0x22.
 pub record ReadsBack (b c : List ℕ) (l : Layout) (d : List ℕ) : Type 0 where
-  pub accepted : validate_answer b ≡ validated.Valid
-  pub geometry : geometry_answer b ≡ geometry-answer.Found (record { tracks = l.tracks; sides = l.sides; size = track_length l })
+  pub accepted : validate_answer b ≡ Ok tt
+  pub geometry : geometry_answer b ≡ Ok (record { tracks = l.tracks; sides = l.sides; size = track_length l })
   pub blocks : (t s : ℕ) → t < l.tracks → s < l.sides
-      → block_answer b t s ≡ block-answer.Found (record { sectors = l.sectors; code = l.code; gap = l.gap; filler = l.filler })
+      → block_answer b t s ≡ Ok (record { sectors = l.sectors; code = l.code; gap = l.gap; filler = l.filler })
   pub sectors : (t s k : ℕ) → t < l.tracks → s < l.sides → k < l.sectors
       → sector_answer b t s k
-      ≡ sector-answer.Found (record {
+      ≡ Ok (record {
         cylinder = t;
         head = s;
         id = k + 1;
@@ -57,8 +52,8 @@ pub record ReadsBack (b c : List ℕ) (l : Layout) (d : List ℕ) : Type 0 where
 -- DK-28: where writing answers with a length, what it leaves reads back.
 abbrev pub RoundTrip : Type 0
 RoundTrip =
-    (c : List ℕ) (l : Layout) (d old : List ℕ) (n : ℕ) → write_answer c l d (length old) ≡ written.Length n
-    → ReadsBack (buffer_after old (image_bytes c l d) (written.Length n)) c l d
+    (c : List ℕ) (l : Layout) (d old : List ℕ) (n : ℕ) → write_answer c l d (length old) ≡ Ok n
+    → ReadsBack (buffer_after old (image_bytes c l d) (Ok n)) c l d
 
 -- ---- different inputs, different images
 
@@ -79,6 +74,6 @@ WritesApart =
 abbrev pub LeavesApart : Type 0
 LeavesApart =
     (c : List ℕ) (l : Layout) (d old : List ℕ) (n : ℕ) (c₂ : List ℕ) (l₂ : Layout) (d₂ old₂ : List ℕ) (n₂ : ℕ)
-    → write_answer c l d (length old) ≡ written.Length n → write_answer c₂ l₂ d₂ (length old₂) ≡ written.Length n₂
-    → buffer_after old (image_bytes c l d) (written.Length n) ≡ buffer_after old₂ (image_bytes c₂ l₂ d₂) (written.Length n₂)
+    → write_answer c l d (length old) ≡ Ok n → write_answer c₂ l₂ d₂ (length old₂) ≡ Ok n₂
+    → buffer_after old (image_bytes c l d) (Ok n) ≡ buffer_after old₂ (image_bytes c₂ l₂ d₂) (Ok n₂)
     → SameInput c l d c₂ l₂ d₂

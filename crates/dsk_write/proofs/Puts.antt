@@ -1,6 +1,6 @@
 -- The stores that make each part of the image; and what writing answers and leaves in each of its cases.
 use Prim.Native.Nat.{ℕ, ◌+◌, ◌-◌, ◌*◌, ◌/◌, ◌%◌, ◌≤◌}
-use mathlib.Core.Path.{◌≡◌, refl, ap, ◌∙◌}
+use mathlib.Core.Path.{◌≡◌, refl, ap, ap₂, ◌∙◌}
 use mathlib.Core.List.{List, [], ◌∷◌, ◌++◌}
 use native.Mathlib.Omega.{arith}
 use lib.ListN.{length, take, drop, replicate, length-replicate, length-drop}
@@ -11,7 +11,7 @@ use Rattle.copies.proofs.CopyLaws.{copy_fits}
 use Rattle.dsk_fields.specs.Fields.{info_size, block_text}
 use Rattle.dsk_layout.specs.declared.Layout.{Layout}
 use Rattle.dsk_layout.specs.Layouts.{track_data, track_length}
-use Rattle.dsk_write.specs.Images.{joined_from, opening_text, geometry_bytes, header_bytes, entry_bytes, number_bytes, list_bytes, info_bytes, block_offset, block_bytes}
+use Rattle.dsk_write.specs.Images.{opening_text, geometry_bytes, header_bytes, number_bytes, list_bytes, info_bytes, block_offset, block_bytes}
 use Rattle.dsk_write.specs.declared.BlockOffsets.{BlockOffsets}
 use Rattle.dsk_write.specs.Steps.{Roomy, Located}
 use Rattle.dsk_write.proofs.Stores.{then_put, then_copy}
@@ -26,14 +26,14 @@ then_zeros d i xs j n p q r s h =
     then_copy d i xs j (replicate n 0) p q r (omega arith) ∙ ap (λ (m : ℕ). sets d i (xs ++ replicate m 0)) e
 
 module _ (d : List ℕ) {e f g h : List ℕ} (room : 256 ≤ length d) where
-  pub header_put : (c : List ℕ) (l : Layout) (size : ℕ) → length c ≡ 14 → size ≡ track_length l
-      → e ≡ copied_at d 0 opening_text → f ≡ copied_at e 34 c → g ≡ copied_at f 48 (l.tracks ∷ l.sides ∷ size % 256 ∷ size / 256 % 256 ∷ [])
+  pub header_put : (c : List ℕ) (l : Layout) {low high : ℕ} → length c ≡ 14 → low ≡ track_length l % 256 → high ≡ track_length l / 256 % 256
+      → e ≡ copied_at d 0 opening_text → f ≡ copied_at e 34 c → g ≡ copied_at f 48 (l.tracks ∷ l.sides ∷ low ∷ high ∷ [])
       → h ≡ copied_at g 52 (replicate 204 0) → h ≡ sets d 0 (header_bytes c l)
   unfolding header_bytes le_bytes
-  header_put c l size n q pe pf pg ph =
+  header_put c l {low} {high} n p q pe pf pg ph =
       let opening : e ≡ sets d 0 opening_text = pe ∙ copy_fits d opening_text 0 (omega arith) in
       let creator : f ≡ sets d 0 (opening_text ++ c) = then_copy d 0 opening_text 34 c opening pf refl (omega arith) in
-      let same : l.tracks ∷ l.sides ∷ size % 256 ∷ size / 256 % 256 ∷ [] ≡ geometry_bytes l = ap (λ (v : ℕ). l.tracks ∷ l.sides ∷ le_bytes 2 v) q in
+      let same : l.tracks ∷ l.sides ∷ low ∷ high ∷ [] ≡ geometry_bytes l = ap₂ (λ (x y : ℕ). l.tracks ∷ l.sides ∷ x ∷ y ∷ []) p q in
       let behind : 0 + length (opening_text ++ c) ≡ 48 = omega arith in
       let geometry : g ≡ sets d 0 (opening_text ++ c ++ geometry_bytes l) =
       then_copy d 0 (opening_text ++ c) 48 (geometry_bytes l) creator (pg ∙ ap (copied_at f 48) same) behind (omega arith) in
@@ -42,18 +42,17 @@ module _ (d : List ℕ) {e f g h : List ℕ} (room : 256 ≤ length d) where
 
 -- the Track Information Block
 module _ (d : List ℕ) {e f g h : List ℕ} (at : ℕ) (room : at + 256 ≤ length d) where
-  pub info_put : (l : Layout) (t s : ℕ) {n used : ℕ} → l.sectors ≤ 29 → n ≡ l.sectors → used ≡ 24 + 8 * n
+  pub info_put : (l : Layout) (t s : ℕ) {used : ℕ} → l.sectors ≤ 29 → used ≡ 24 + 8 * l.sectors
       → e ≡ copied_at d at (block_text ++ (0 ∷ 0 ∷ 0 ∷ 0 ∷ [])) → f ≡ copied_at e (at + 16) (number_bytes l t s)
-      → g ≡ sets f (at + 24) (joined_from (entry_bytes t s l.code) 0 n) → h ≡ copied_at g (at + used) (replicate (256 - used) 0)
+      → g ≡ sets f (at + 24) (list_bytes l t s) → h ≡ copied_at g (at + used) (replicate (256 - used) 0)
       → h ≡ sets d at (info_bytes l t s)
   unfolding info_bytes
-  info_put l t s {n} {used} few q u pe pf pg ph =
+  info_put l t s {used} few u pe pf pg ph =
       let head : List ℕ = block_text ++ (0 ∷ 0 ∷ 0 ∷ 0 ∷ []) in
       let name : e ≡ sets d at head = pe ∙ copy_fits d head at (omega arith) in
       let numbers : f ≡ sets d at (head ++ number_bytes l t s) = then_copy d at head (at + 16) (number_bytes l t s) name pf refl (omega arith) in
-      let same = ap (joined_from (entry_bytes t s l.code) 0) q in
       let listed : g ≡ sets d at (head ++ number_bytes l t s ++ list_bytes l t s) =
-      then_put d at (head ++ number_bytes l t s) (at + 24) (list_bytes l t s) numbers (pg ∙ ap (sets f (at + 24)) same) refl in
+      then_put d at (head ++ number_bytes l t s) (at + 24) (list_bytes l t s) numbers pg refl in
       let size = info_said l t s in
       let behind : at + length (head ++ number_bytes l t s ++ list_bytes l t s) ≡ at + used = omega arith in
       let whole : length (head ++ number_bytes l t s ++ list_bytes l t s) + (256 - used) ≡ 256 = omega arith in

@@ -29,9 +29,6 @@ places_only places vs xs p e = go (ltb places (length xs)) e
 -- ---- a list made of flux bytes
 
 module _ (s : List ℕ) (places : ℕ) (xs : List ℕ) where
-  pub list_bad : bad_flux_size (length s) ≡ true → list_read s places xs ≡ refuses words_refused 0
-  list_bad bad = simp bad
-
   pub list_short : bad_flux_size (length s) ≡ false → places < length xs → list_read s places xs ≡ refuses places_refused 0
   list_short good h = simp (good, lt-ltb _ _ h)
 

@@ -4,13 +4,13 @@ use mathlib.Core.Path.{◌≡◌, refl, sym, ap, ap₂, ◌∙◌}
 use Prim.Native.Nat.{ℕ, zero, suc, ◌+◌, ◌*◌, ◌/◌, ◌%◌, ◌<◌, ◌≤◌}
 use native.Mathlib.Omega.{arith}
 use mathlib.Core.List.{List, [], ◌∷◌}
-use mathlib.Core.Bool.{Bool, true, false, ◌||◌}
+use mathlib.Core.Bool.{Bool, true, false, not, ◌||◌}
 use native.Mathlib.Numerals.{add-one}
 use lib.ListN.{length, get_or, drop, drop_of_length-le}
 use lib.Seq.{drop-cons}
-use lib.Dec.{ltb, eqb}
+use lib.Dec.{ltb, eqb, eqb-suc-zero}
 use borrow.Author.Tests.{ltb-false, eqb-false}
-use Rattle.std.specs.Int.{w16, from_be_bytes}
+use Rattle.std.specs.Int.{w16, from_be_bytes, from_bool}
 use Rattle.std.specs.Prelude.{map}
 use Rattle.std.specs.Simd.{first_chunks}
 use Rattle.std.proofs.lemmas.List.{length-map, get_or-map}
@@ -30,7 +30,7 @@ pub record WordAt (ws : List ℕ) (i w : ℕ) : Type 0 where
   pub same : w ≡ get_or ws i 0
 
 -- the pairs of the bytes s, read one after the other, are its words
-pub pair_words : (s : List ℕ) → map (from_be_bytes w16) (first_chunks 2 (length s / 2) s) ≡ words_of s
+pair_words : (s : List ℕ) → map (from_be_bytes w16) (first_chunks 2 (length s / 2) s) ≡ words_of s
 unfolding words_of
 pair_words [] = refl
 pair_words (a ∷ []) = refl
@@ -54,6 +54,11 @@ module _ (s : List ℕ) (ps : List (List ℕ)) (pairs : ps ≡ first_chunks 2 (l
   pub no_more : {i : ℕ} → length ps ≤ i → length (words_of s) ≤ i
   no_more h = let n = many in omega arith
 
+-- a word counts at most once
+pub at_most_one : (b : Bool) → from_bool b ≤ 1
+at_most_one true = omega arith
+at_most_one false = omega arith
+
 -- ---- the definitions at a word that is not zero; at a zero they compute
 
 intervals_word : (ws : List ℕ) (w p : ℕ) → (w ≡ 0 → ⊥) → intervals p (w ∷ ws) ≡ (p + w) ∷ intervals 0 ws
@@ -66,10 +71,10 @@ unfolding open_time
 open_word ws zero p h = absurd (h refl)
 open_word ws (suc w) p h = refl
 
-closing_word : (ws : List ℕ) (w : ℕ) → (w ≡ 0 → ⊥) → closing_words (w ∷ ws) ≡ suc (closing_words ws)
+closing_word : (ws : List ℕ) (w : ℕ) → closing_words (w ∷ ws) ≡ from_bool (not (eqb w 0)) + closing_words ws
 unfolding closing_words
-closing_word ws zero h = absurd (h refl)
-closing_word ws (suc w) h = refl
+closing_word ws zero = omega arith
+closing_word ws (suc w) = simp (eqb-suc-zero w) (omega arith)
 
 total_word : (ws : List ℕ) (w : ℕ) → (w ≡ 0 → ⊥) → total_ticks (w ∷ ws) ≡ w + total_ticks ws
 unfolding total_ticks
@@ -92,6 +97,9 @@ module _ {ws : List ℕ} {i w : ℕ} (at : WordAt ws i w) where
   drop_w : drop i ws ≡ w ∷ drop (i + 1) ws
   drop_w = rw (at.same, add-one) (drop-cons ws i 0 at.there)
 
+  pub closing_more : closing_words (drop i ws) ≡ from_bool (not (eqb w 0)) + closing_words (drop (i + 1) ws)
+  closing_more = rw drop_w (closing_word (drop (i + 1) ws) w)
+
   module _ (z : w ≡ 0) where
     drop_zero : drop i ws ≡ 0 ∷ drop (i + 1) ws
     drop_zero = rw z at drop_w
@@ -103,10 +111,6 @@ module _ {ws : List ℕ} {i w : ℕ} (at : WordAt ws i w) where
     pub open_zero : (p : ℕ) → open_time p (drop i ws) ≡ open_time (p + zero_ticks) (drop (i + 1) ws)
     unfolding open_time
     open_zero p = rw drop_zero refl
-
-    pub closing_zero : closing_words (drop i ws) ≡ closing_words (drop (i + 1) ws)
-    unfolding closing_words
-    closing_zero = rw drop_zero refl
 
     pub total_zero : total_ticks (drop i ws) ≡ zero_ticks + total_ticks (drop (i + 1) ws)
     unfolding total_ticks
@@ -126,9 +130,6 @@ module _ {ws : List ℕ} {i w : ℕ} (at : WordAt ws i w) where
 
     pub open_close : (p : ℕ) → open_time p (drop i ws) ≡ open_time 0 (drop (i + 1) ws)
     open_close p = rw drop_w (open_word (drop (i + 1) ws) w p z)
-
-    pub closing_close : closing_words (drop i ws) ≡ suc (closing_words (drop (i + 1) ws))
-    closing_close = rw drop_w (closing_word (drop (i + 1) ws) w z)
 
     pub total_close : total_ticks (drop i ws) ≡ w + total_ticks (drop (i + 1) ws)
     total_close = rw drop_w (total_word (drop (i + 1) ws) w z)

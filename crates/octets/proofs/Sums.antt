@@ -20,7 +20,7 @@ sum_is [] = refl
 sum_is (x ∷ b) = omega (arith, sum_by-cons (λ (n : ℕ). n) x b, sum_is b)
 
 -- Block i of n bytes.
-block_at : (n k : ℕ) (b d : List ℕ) (i : ℕ) → i < k → get_or (first_chunks n k b) i d ≡ take n (drop (i * n) b)
+pub block_at : (n k : ℕ) (b d : List ℕ) (i : ℕ) → i < k → get_or (first_chunks n k b) i d ≡ take n (drop (i * n) b)
 block_at n zero b d i h = absurd (not-suc-le-zero h)
 block_at n (suc k) b d zero h = rw zero-mul
 block_at n (suc k) b d (suc i) h =

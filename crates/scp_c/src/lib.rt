@@ -16,8 +16,7 @@ ghost use Rattle.boundary.specs.Boundary.{code_of, within, out_after};
 ghost use Rattle.scp_boundary.specs.Boundary.{numbers_of, part_numbers, floats_of, step_numbers, given_of, both, values_of};
 ghost use Rattle.utf8_coded.specs.Boundary.{text_numbers};
 
-use scp_rewrite::Rewritten;
-use sequence::Replayed;
+use scp_fields::Edition;
 
 // ---- an image
 
@@ -266,12 +265,9 @@ pub extern "C" fn scp_rewrite(
     ensures value { result ≡ code_of (numbers_of (rewrite_answer (edition_of edition) image.old track revolution words.now)) }
     ensures image_after { image.new ≡ after_rewrite (edition_of edition) image.old track revolution duration words.now }
 {
-    let named = scp_fields::edition_of(edition as u64);
-    let found = scp_rewrite::rewrite(image, named, track, revolution, duration, words);
-    match found {
-        Rewritten::Done => 0,
-        Rewritten::Refused(r) => boundary::code(r),
-    }
+    let named = Edition::from(u64::from(edition));
+    let rewritten = scp_rewrite::rewrite(image, named, track, revolution, duration, words);
+    boundary::code_of(rewritten)
 }
 
 // Runs a list of calls on the image, 7 numbers each; 16 numbers a call to `answers`. The claim S holds of the whole sequence.
@@ -285,9 +281,6 @@ pub extern "C" fn scp_replay(
     ensures value { result ≡ code_of (numbers_of (replay_answer calls.now (length answers.old))) }
     ensures replays { Replays image.old calls.now words.now answers.old image.new answers.new }
 {
-    let found = sequence::replay(image, calls, words, answers);
-    match found {
-        Replayed::Done => 0,
-        Replayed::Refused(r) => boundary::code(r),
-    }
+    let replayed = sequence::replay(image, calls, words, answers);
+    boundary::code_of(replayed)
 }

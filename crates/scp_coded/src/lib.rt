@@ -8,19 +8,14 @@ ghost use Rattle.scp.specs.Answers.{validate_answer, header_answer, footer_answe
 ghost use Rattle.boundary.specs.Boundary.{code_of, within, out_after};
 ghost use Rattle.scp_boundary.specs.Boundary.{numbers_of, part_numbers, floats_of};
 
-use scp::{FooterAnswer, HeaderAnswer, SpeedAnswer, TrackSpeedAnswer, Validated};
-use scp_lookup::{RevolutionAnswer, TrackAnswer};
+use scp_fields::Edition;
 
 // Validates the image: refusals 1 to 12 and 19.
 pub fn validate(image: &[u8], edition: u32) -> u64
     ensures { result ≡ code_of (numbers_of (validate_answer (edition_of edition) image.now)) }
 {
-    let named = scp_fields::edition_of(edition as u64);
-    let found = scp::validate(image, named);
-    match found {
-        Validated::Valid => 0,
-        Validated::Refused(r) => boundary::code(r),
-    }
+    let named = Edition::from(u64::from(edition));
+    boundary::code_of(scp::validate(image, named))
 }
 
 // The header: version, disk type, revolutions, start, end, flags, width, heads, checksum.
@@ -28,15 +23,9 @@ pub fn header(image: &[u8], edition: u32, out: &mut [u64]) -> u64
     ensures value { result ≡ code_of (within (length out.old) (numbers_of (header_answer (edition_of edition) image.now))) }
     ensures out_after { out.new ≡ out_after out.old (within (length out.old) (numbers_of (header_answer (edition_of edition) image.now))) }
 {
-    let named = scp_fields::edition_of(edition as u64);
+    let named = Edition::from(u64::from(edition));
     let found = scp::header(image, named);
-    match found {
-        HeaderAnswer::Found(h) => {
-            let row = scp_values::header_numbers(h);
-            boundary::give(out, &row)
-        }
-        HeaderAnswer::Refused(r) => boundary::code(r),
-    }
+    boundary::answer(out, found.map(scp_values::header_numbers))
 }
 
 // The footer: 1, six offsets, two times, four version bytes; 13 zeros where there is none.
@@ -44,18 +33,11 @@ pub fn footer(image: &[u8], edition: u32, out: &mut [u64]) -> u64
     ensures value { result ≡ code_of (within (length out.old) (numbers_of (footer_answer (edition_of edition) image.now))) }
     ensures out_after { out.new ≡ out_after out.old (within (length out.old) (numbers_of (footer_answer (edition_of edition) image.now))) }
 {
-    let named = scp_fields::edition_of(edition as u64);
-    let found = scp::footer(image, named);
-    match found {
-        FooterAnswer::Found(f) => {
-            let row = scp_values::footer_numbers(f);
-            boundary::give(out, &row)
-        }
-        FooterAnswer::None => {
-            let row = [0u64; 13];
-            boundary::give(out, &row)
-        }
-        FooterAnswer::Refused(r) => boundary::code(r),
+    let named = Edition::from(u64::from(edition));
+    match scp::footer(image, named) {
+        Ok(Some(f)) => boundary::give(out, &scp_values::footer_numbers(f)),
+        Ok(None) => boundary::give(out, &[0; 13]),
+        Err(r) => boundary::code(r),
     }
 }
 
@@ -64,15 +46,9 @@ pub fn track(image: &[u8], edition: u32, track: u32, out: &mut [u64]) -> u64
     ensures value { result ≡ code_of (within (length out.old) (numbers_of (track_answer (edition_of edition) image.now track))) }
     ensures out_after { out.new ≡ out_after out.old (within (length out.old) (numbers_of (track_answer (edition_of edition) image.now track))) }
 {
-    let named = scp_fields::edition_of(edition as u64);
+    let named = Edition::from(u64::from(edition));
     let found = scp::track(image, named, track);
-    match found {
-        TrackAnswer::Found(d) => {
-            let row = scp_values::track_numbers(d);
-            boundary::give(out, &row)
-        }
-        TrackAnswer::Refused(r) => boundary::code(r),
-    }
+    boundary::answer(out, found.map(scp_values::track_numbers))
 }
 
 // A revolution: duration, words, file offset of its flux.
@@ -80,15 +56,9 @@ pub fn revolution(image: &[u8], edition: u32, track: u32, revolution: u32, out: 
     ensures value { result ≡ code_of (within (length out.old) (numbers_of (revolution_answer (edition_of edition) image.now track revolution))) }
     ensures out_after { out.new ≡ out_after out.old (within (length out.old) (numbers_of (revolution_answer (edition_of edition) image.now track revolution))) }
 {
-    let named = scp_fields::edition_of(edition as u64);
+    let named = Edition::from(u64::from(edition));
     let found = scp::revolution(image, named, track, revolution);
-    match found {
-        RevolutionAnswer::Found(d) => {
-            let row = scp_values::revolution_numbers(d);
-            boundary::give(out, &row)
-        }
-        RevolutionAnswer::Refused(r) => boundary::code(r),
-    }
+    boundary::answer(out, found.map(scp_values::revolution_numbers))
 }
 
 // The flux of a revolution.
@@ -96,11 +66,11 @@ pub fn flux(image: &[u8], edition: u32, track: u32, revolution: u32, out: &mut [
     ensures value { result ≡ code_of (within (length out.old) (numbers_of (flux_answer (edition_of edition) image.now track revolution))) }
     ensures out_after { out.new ≡ out_after out.old (within (length out.old) (numbers_of (flux_answer (edition_of edition) image.now track revolution))) }
 {
-    let named = scp_fields::edition_of(edition as u64);
+    let named = Edition::from(u64::from(edition));
     let answer = scp::revolution(image, named, track, revolution);
     match answer {
-        RevolutionAnswer::Found(d) => boundary::give_bytes(out, scp_lookup::flux_of(image, d)),
-        RevolutionAnswer::Refused(r) => boundary::code(r),
+        Ok(d) => boundary::give(out, scp_lookup::flux_of(image, d)),
+        Err(r) => boundary::code(r),
     }
 }
 
@@ -109,16 +79,15 @@ pub fn flux_part(image: &[u8], edition: u32, track: u32, revolution: u32, out: &
     ensures value { result ≡ code_of (within (length out.old) (part_numbers (flux_answer (edition_of edition) image.now track revolution))) }
     ensures out_after { out.new ≡ out_after out.old (within (length out.old) (part_numbers (flux_answer (edition_of edition) image.now track revolution))) }
 {
-    let named = scp_fields::edition_of(edition as u64);
+    let named = Edition::from(u64::from(edition));
     let asked = scp::revolution(image, named, track, revolution);
     match asked {
-        RevolutionAnswer::Found(d) => {
+        Ok(d) => {
             let offset = d.offset;
             let part = scp_lookup::flux_of(image, d);
-            let row = [offset.0, part.len() as u64];
-            boundary::give(out, &row)
+            boundary::give(out, &[offset.0, part.len() as u64])
         }
-        RevolutionAnswer::Refused(r) => boundary::code(r),
+        Err(r) => boundary::code(r),
     }
 }
 
@@ -129,12 +98,9 @@ pub fn speed(image: &[u8], edition: u32, track: u32, revolution: u32, out: &mut 
     ensures value { result ≡ code_of (within (length out.old) (floats_of 2 (speed_answer (edition_of edition) image.now track revolution))) }
     ensures out_after { out.new ≡ out_after out.old (within (length out.old) (floats_of 2 (speed_answer (edition_of edition) image.now track revolution))) }
 {
-    let named = scp_fields::edition_of(edition as u64);
+    let named = Edition::from(u64::from(edition));
     let found = scp::speed(image, named, track, revolution);
-    match found {
-        SpeedAnswer::Found(s) => scp_boundary::give_speed(out, s),
-        SpeedAnswer::Refused(r) => boundary::code(r),
-    }
+    boundary::answer(out, found.map(scp_boundary::speed_floats))
 }
 
 // The speeds of a track: 1.0, slowest, fastest, or three zeros.
@@ -142,18 +108,7 @@ pub fn track_speed(image: &[u8], edition: u32, track: u32, out: &mut [f64]) -> u
     ensures value { result ≡ code_of (within (length out.old) (floats_of 3 (track_speed_answer (edition_of edition) image.now track))) }
     ensures out_after { out.new ≡ out_after out.old (within (length out.old) (floats_of 3 (track_speed_answer (edition_of edition) image.now track))) }
 {
-    let named = scp_fields::edition_of(edition as u64);
+    let named = Edition::from(u64::from(edition));
     let found = scp::track_speed(image, named, track);
-    match found {
-        TrackSpeedAnswer::Found(s) => {
-            let row = [scp_boundary::whole(1), s.slowest, s.fastest];
-            boundary::give_floats(out, &row)
-        }
-        TrackSpeedAnswer::None => {
-            let zero = scp_boundary::whole(0);
-            let row = [zero, zero, zero];
-            boundary::give_floats(out, &row)
-        }
-        TrackSpeedAnswer::Refused(r) => boundary::code(r),
-    }
+    boundary::answer(out, found.map(scp_boundary::track_speed_floats))
 }

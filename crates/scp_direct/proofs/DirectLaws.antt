@@ -10,6 +10,8 @@ use lib.Dec.{eqb, leb}
 use borrow.Author.Tests.{eq-eqb, ne_eqb, eqb-true, eqb-false, le-leb, lt-leb, leb-true, leb-false}
 use Rattle.refusals.specs.Refusals.{Fault, none, refusal, passes, refuse_if, first_of}
 use Rattle.refusals.specs.Search.{first_from}
+use Rattle.refusals.proofs.Passing.{told_ok}
+use Rattle.std.specs.Prelude.{Ok, Err}
 use Rattle.refusals.proofs.Answers.{unless_refused, unless_found}
 use Rattle.refusals.proofs.Chain.{refuse_here, refuse_next, first_here, first_next}
 use Rattle.refusals.proofs.Finding.{both_clear, not_refused, excuse, Clear, clear_refuse}
@@ -22,10 +24,8 @@ use Rattle.scp_tracks.specs.Revolutions.{data_of, revolution_fault}
 use Rattle.scp_tracks.specs.declared.RevolutionData.{RevolutionData}
 use Rattle.scp_open.specs.Opening.{fault_in}
 use Rattle.scp_open.proofs.Opens.{track_holds}
-use Rattle.scp_lookup.specs.declared.Entry.TheVariants as entry
-use Rattle.scp_lookup.specs.declared.RevolutionAnswer.TheVariants as revolution-answer
 use Rattle.scp_lookup.specs.Lookups.{track_on, revolution_on, flux_of, start_of, start_in}
-use Rattle.scp_lookup.proofs.FoundLaws.{revolution_on_is, told_found, start_in_lem}
+use Rattle.scp_lookup.proofs.FoundLaws.{revolution_on_is, start_in_lem}
 use Rattle.scp.specs.Answers.{refused, bytes, of_track, of_revolution}
 use Rattle.scp.proofs.Answering.{track_told, revolution_told, flux_told, flux_untold}
 use Rattle.scp_direct.specs.Direct.{direct_track_question, direct_revolution_question, direct_entry, direct_found, direct_track, direct_revolution, direct_flux}
@@ -78,9 +78,9 @@ unfolding track_fault_at
 absent_clear v b t a = excuse (eqb (track_entry b t) 0) _ (λ q. absurd (eqb-false (track_entry b t) 0 q a))
 
 module _ (v : Edition) (b : List ℕ) (t : ℕ) where
-  pub entry_refused : {f : Fault} → f ≡ direct_track_question v b t → (f.number ≡ 0 → ⊥) → entry.Refused f ≡ direct_entry v b t
+  pub entry_refused : {f : Fault} → f ≡ direct_track_question v b t → (f.number ≡ 0 → ⊥) → Err f ≡ direct_entry v b t
   unfolding direct_entry
-  entry_refused e n = unless_refused (direct_track_question v b t) _ entry.Refused e n
+  entry_refused e n = unless_refused (direct_track_question v b t) _ Err e n
 
   pub by_header : {f : Fault} → f ≡ header_fault v b → (f.number ≡ 0 → ⊥) → f ≡ direct_track_question v b t
   unfolding direct_track_question
@@ -148,9 +148,9 @@ module _ (v : Edition) (b : List ℕ) (t : ℕ) where
         holds = absent.1;
       }
 
-  pub entry_found : {e : ℕ} → (direct_track_question v b t).number ≡ 0 → e ≡ track_entry b t → entry.At e ≡ direct_entry v b t
+  pub entry_found : {e : ℕ} → (direct_track_question v b t).number ≡ 0 → e ≡ track_entry b t → Ok e ≡ direct_entry v b t
   unfolding direct_entry
-  entry_found z e = unless_found (direct_track_question v b t) _ entry.Refused z (ap entry.At e)
+  entry_found z e = unless_found (direct_track_question v b t) _ Err z (ap Ok e)
 
   pub direct_track_is : of_track (track_on b t (direct_entry v b t)) ≡ direct_track v b t
   unfolding direct_entry direct_track
@@ -168,9 +168,9 @@ module _ (v : Edition) (b : List ℕ) (t k : ℕ) where
   direct_revolution_is = revolution_told b t k (direct_revolution_question v b t k)
 
   -- one that is not refused is found
-  pub direct_is_found : (direct_revolution_question v b t k).number ≡ 0 → revolution-answer.Found (data_of b (track_entry b t) k) ≡ direct_found v b t k
+  pub direct_is_found : (direct_revolution_question v b t k).number ≡ 0 → Ok (data_of b (track_entry b t) k) ≡ direct_found v b t k
   unfolding direct_found
-  direct_is_found z = unless_found (direct_revolution_question v b t k) _ revolution-answer.Refused z refl
+  direct_is_found z = unless_found (direct_revolution_question v b t k) _ Err z refl
 
   -- its track is there, and it is below R
   pub direct_below : (direct_revolution_question v b t k).number ≡ 0 → DirectThere v b t × (k < revolutions b)
@@ -180,10 +180,10 @@ module _ (v : Edition) (b : List ℕ) (t k : ℕ) where
       (direct_there v b t both.0, leb-false (revolutions b) k (not_refused (leb (revolutions b) k) 13 0 none both.1).0)
 
   -- the flux of one that is found lies in the image
-  pub direct_within : (d : RevolutionData) → revolution-answer.Found d ≡ direct_found v b t k → d.offset.0 + 2 * d.words ≤ length b
+  pub direct_within : (d : RevolutionData) → Ok d ≡ direct_found v b t k → d.offset.0 + 2 * d.words ≤ length b
   unfolding direct_found
   direct_within d h =
-      let told = told_found (direct_revolution_question v b t k) _ h in
+      let told = told_ok (direct_revolution_question v b t k) _ h in
       let held = direct_below told.0 in
       let track = (track_holds v b (track_entry b t) t).0 held.0.holds held.0.entry in
       let offset = ap (λ (x : RevolutionData). x.offset.0) told.1 in
@@ -195,12 +195,12 @@ module _ (v : Edition) (b : List ℕ) (t k : ℕ) where
   direct_start_lem = start_in_lem b (direct_found v b t k) direct_within
 
   -- the flux that is answered, by what asking for the revolution gave
-  pub direct_flux_found : (d : RevolutionData) → of_revolution (revolution-answer.Found d) ≡ direct_revolution v b t k
+  pub direct_flux_found : (d : RevolutionData) → of_revolution (Ok d) ≡ direct_revolution v b t k
       → bytes d.offset.0 (flux_of b d) ≡ direct_flux v b t k
   unfolding direct_found direct_revolution
   direct_flux_found = flux_told b t k (direct_revolution_question v b t k)
 
-  pub direct_flux_refused : (r : Fault) → of_revolution (revolution-answer.Refused r) ≡ direct_revolution v b t k
+  pub direct_flux_refused : (r : Fault) → of_revolution (Err r) ≡ direct_revolution v b t k
       → refused r.number r.position ≡ direct_flux v b t k
   unfolding direct_found direct_revolution
   direct_flux_refused = flux_untold b t k (direct_revolution_question v b t k)

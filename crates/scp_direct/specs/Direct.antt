@@ -1,6 +1,6 @@
 -- The direct calls: what refuses them, in its order (DI-1, DI-2), and what they answer (DI-3 to DI-5). They look at the header, one entry of the
 -- table, that track's header and the records of its revolutions.
-use Rattle.std.specs.Prelude.{ℕ, List}
+use Rattle.std.specs.Prelude.{ℕ, List, Result, Ok, Err}
 use Rattle.refusals.specs.Refusals.{Fault, first_of}
 use Rattle.refusals.specs.Refusals as refusals
 use Rattle.scp_fields.specs.declared.Edition.{Edition}
@@ -8,12 +8,9 @@ use Rattle.scp_fields.specs.Header.{track_entry}
 use Rattle.scp_header.specs.HeaderFault.{header_fault}
 use Rattle.scp_tracks.specs.Tracks.{track_fault}
 use Rattle.scp_tracks.specs.Revolutions.{data_of, revolution_fault}
+use Rattle.scp_tracks.specs.declared.RevolutionData.{RevolutionData}
 use Rattle.scp_lookup.specs.Questions.{absent_then}
 use Rattle.scp_lookup.specs.Lookups.{part_of, start_of}
-use Rattle.scp_lookup.specs.declared.Entry.{Entry}
-use Rattle.scp_lookup.specs.declared.Entry.TheVariants as entry
-use Rattle.scp_lookup.specs.declared.RevolutionAnswer.{RevolutionAnswer}
-use Rattle.scp_lookup.specs.declared.RevolutionAnswer.TheVariants as revolution-answer
 use Rattle.scp.specs.Answers.{Answer, bytes, unless, track_values, revolution_values}
 
 -- ---- what refuses
@@ -29,13 +26,13 @@ direct_revolution_question v b t k = first_of (direct_track_question v b t) (rev
 -- ---- what is found
 
 -- DI-1: the entry of track t, or what refuses it.
-unfoldable pub direct_entry : Edition → List ℕ → ℕ → Entry
-direct_entry v b t = refusals.unless (direct_track_question v b t) (entry.At (track_entry b t)) entry.Refused
+unfoldable pub direct_entry : Edition → List ℕ → ℕ → Result ℕ Fault
+direct_entry v b t = refusals.unless (direct_track_question v b t) (Ok (track_entry b t)) Err
 
 -- DI-2: the numbers of revolution k of track t, or what refuses it.
-unfoldable pub direct_found : Edition → List ℕ → ℕ → ℕ → RevolutionAnswer
+unfoldable pub direct_found : Edition → List ℕ → ℕ → ℕ → Result RevolutionData Fault
 direct_found v b t k =
-    refusals.unless (direct_revolution_question v b t k) (revolution-answer.Found (data_of b (track_entry b t) k)) revolution-answer.Refused
+    refusals.unless (direct_revolution_question v b t k) (Ok (data_of b (track_entry b t) k)) Err
 
 -- ---- what is answered
 

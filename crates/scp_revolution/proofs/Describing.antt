@@ -6,6 +6,7 @@ use mathlib.Core.Bool.{Bool, true, false, cond}
 use native.Mathlib.Omega.{arith}
 use lib.ListN.{length}
 use borrow.Author.Tests.{ne_eqb, le-ltb}
+use Rattle.std.specs.Prelude.{Result, Ok, Err}
 use Rattle.refusals.specs.Refusals.{Fault, refusal}
 use Rattle.flux.specs.Coding.{bad_flux_size, flux_limit}
 use Rattle.flux.specs.Answers.{Answer, refused, gives, words_refused}
@@ -14,42 +15,40 @@ use Rattle.flux_summary.specs.Summaries.{summary_of, summary_numbers, summarizin
 use Rattle.copies.proofs.Parts.{part_length}
 use Rattle.scp_tracks.specs.declared.RevolutionData.{RevolutionData}
 use Rattle.scp_lookup.specs.Lookups.{flux_of}
-use Rattle.scp_lookup.specs.declared.RevolutionAnswer.TheVariants as revolution-answer
+use Rattle.scp_revolution.specs.declared.DescribedRevolution.{DescribedRevolution}
 use Rattle.scp_revolution.specs.Described.{words_in, described, described_on}
-use Rattle.scp_revolution.specs.declared.DescribedAnswer.{DescribedAnswer}
-use Rattle.scp_revolution.specs.declared.DescribedAnswer.TheVariants as described-answer
 
 module _ (b : List ℕ) (d : RevolutionData) where
   -- the revolution as its flux has numbers or not
-  abbrev by : Bool → DescribedAnswer
-  by x = cond x (described-answer.Refused (refusal 17 0)) (described-answer.Found (described b d))
+  abbrev by : Bool → Result DescribedRevolution Fault
+  by x = cond x (Err (refusal 17 0)) (Ok (described b d))
 
   abbrev summed : Bool → Answer
   summed x = cond x (refused words_refused 0) (gives (summary_of (words_in b d)))
 
   given_by : (m : Summary) (x : Bool) → gives (summary_numbers m) ≡ summed x
-      → described-answer.Found
+      → Ok
       (record { duration = d.duration; words = d.words; offset = d.offset; intervals = m.intervals; «open» = m.«open»; total = m.total })
       ≡ by x
   given_by m true e = let z : ◌≡◌ {A = ℕ} 0 1 = cc in absurd (omega arith)
   given_by m false e = cc
 
-  refused_by : (r : Fault) (x : Bool) → refused r.number r.position ≡ summed x → described-answer.Refused r ≡ by x
+  refused_by : (r : Fault) (x : Bool) → refused r.number r.position ≡ summed x → Err r ≡ by x
   refused_by r true e =
       let number : r.number ≡ 17 = cc in
       let position : r.position ≡ 0 = cc in
-      ap₂ (λ (n p : ℕ). described-answer.Refused (refusal n p)) number position
+      ap₂ (λ (n p : ℕ). Err (refusal n p)) number position
   refused_by r false e = let z : ◌≡◌ {A = ℕ} 0 1 = cc in absurd (omega arith)
 
   -- the numbers of the flux are those of the revolution
   pub given : (m : Summary) → gives (summary_numbers m) ≡ summarizing (flux_of b d)
-      → described-answer.Found
+      → Ok
       (record { duration = d.duration; words = d.words; offset = d.offset; intervals = m.intervals; «open» = m.«open»; total = m.total })
-      ≡ described_on b (revolution-answer.Found d)
+      ≡ described_on b (Ok d)
   given m = given_by m (bad_flux_size (length (flux_of b d)))
 
   pub not_given : (r : Fault) → refused r.number r.position ≡ summarizing (flux_of b d)
-      → described-answer.Refused r ≡ described_on b (revolution-answer.Found d)
+      → Err r ≡ described_on b (Ok d)
   not_given r = refused_by r (bad_flux_size (length (flux_of b d)))
 
 whole_size : (n : ℕ) → 2 * n ≤ flux_limit → bad_flux_size (2 * n) ≡ false

@@ -2,17 +2,16 @@
 // What needs the record alone does not go by this crate.
 #![tactic(auto)]
 
-ghost use Rattle.std.specs.Prelude.{◌≡◌};
+ghost use Rattle.std.specs.Prelude.{◌≡◌, Ok};
+ghost use Rattle.refusals.specs.Refusals.{found};
 ghost use Rattle.scp_revolution.specs.Described.{described_on};
 
-use flux_summary::Summarized;
 use refusals::Refusal;
-use scp_lookup::RevolutionAnswer;
-use scp_tracks::FileOffset;
+use scp_tracks::{FileOffset, RevolutionData};
 
 // A revolution: its duration in ticks of 25 ns, its count of flux words, where its flux starts; and of its flux how many intervals, the open
 // time and the ticks of all words.
-#[derive(Clone, Copy)]
+#[derive(Clone, Copy, Debug, PartialEq, Eq)]
 pub struct DescribedRevolution {
     pub duration: u32,
     pub words: u32,
@@ -22,33 +21,18 @@ pub struct DescribedRevolution {
     pub total: u64,
 }
 
-// A revolution, or why it is refused.
-#[derive(Clone, Copy)]
-pub enum DescribedAnswer {
-    Found(DescribedRevolution),
-    Refused(Refusal),
-}
-
-// The revolution of a record that was found, with the numbers of its flux.
-pub fn describe(image: &[u8], found: RevolutionAnswer) -> DescribedAnswer
-    ensures { result ≡ described_on image.now found }
+// The revolution of a record, with the numbers of its flux, or 17.
+pub fn describe(image: &[u8], d: RevolutionData) -> Result<DescribedRevolution, Refusal>
+    ensures { found result ≡ described_on image.now (Ok d) }
 {
-    match found {
-        RevolutionAnswer::Found(d) => {
-            let offset = d.offset;
-            let counted = flux_summary::summarize(scp_lookup::flux_of(image, d));
-            match counted {
-                Summarized::Given(m) => DescribedAnswer::Found(DescribedRevolution {
-                    duration: d.duration,
-                    words: d.words,
-                    offset,
-                    intervals: m.intervals,
-                    open: m.open,
-                    total: m.total,
-                }),
-                Summarized::Refused(r) => DescribedAnswer::Refused(r),
-            }
-        }
-        RevolutionAnswer::Refused(r) => DescribedAnswer::Refused(r),
-    }
+    let offset = d.offset;
+    let m = flux_summary::summarize(scp_lookup::flux_of(image, d))?;
+    Ok(DescribedRevolution {
+        duration: d.duration,
+        words: d.words,
+        offset,
+        intervals: m.intervals,
+        open: m.open,
+        total: m.total,
+    })
 }

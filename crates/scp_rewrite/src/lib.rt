@@ -3,7 +3,7 @@
 #![tactic(auto)]
 
 ghost use Rattle.std.specs.Prelude.{◌≡◌, ◌+◌, ◌≤◌, length};
-ghost use Rattle.octets.specs.Numbers.{le_bytes};
+ghost use Rattle.refusals.specs.Refusals.{found};
 ghost use Rattle.scp_fields.specs.Editions.{table_at};
 ghost use Rattle.scp_fields.specs.Header.{stored_sum};
 ghost use Rattle.scp_rewrite.specs.Rewriting.{patched, moved_sum, summed, after_rewrite};
@@ -12,13 +12,6 @@ ghost use Rattle.scp_rewrite.specs.Steps.{Patchable, Stored};
 
 use refusals::Refusal;
 use scp_fields::Edition;
-
-// Whether a revolution was rewritten.
-#[derive(Clone, Copy)]
-pub enum Rewritten {
-    Done,
-    Refused(Refusal),
-}
 
 // ---- the stores
 
@@ -29,21 +22,9 @@ fn store(image: &mut [u8], at: usize, bytes: &[u8], sum: u32) -> u32
 {
     let end = at + bytes.len();
     let old = octets::byte_sum(&image[at..end]);
-    copies::bytes(image, at, bytes);
+    copies::copy(image, at, bytes);
     let new = octets::byte_sum(bytes);
-    std::num::wrapping_sub_u32(std::num::wrapping_add_u32(sum, new), old)
-}
-
-// The four bytes of a number, the lowest first.
-fn four_bytes(v: u32) -> [u8; 4]
-    ensures { result ≡ le_bytes 4 v }
-{
-    [
-        (v % 256) as u8,
-        (v / 256 % 256) as u8,
-        (v / 256 / 256 % 256) as u8,
-        (v / 256 / 256 / 256 % 256) as u8,
-    ]
+    sum.wrapping_add(new).wrapping_sub(old)
 }
 
 // The checksum as it is stored, right or wrong: a rewrite moves it and never sums afresh (W-11).
@@ -66,8 +47,8 @@ fn patch(image: &mut [u8], e: u32, k: u32, duration: u32, words: &[u8]) -> u32
     let stored = stored_sum(image);
     let count = (words.len() / 2) as u32;
     let worded = store(image, offset, words, stored);
-    let timed = store(image, at, &four_bytes(duration), worded);
-    store(image, at + 4, &four_bytes(count), timed)
+    let timed = store(image, at, &duration.to_le_bytes(), worded);
+    store(image, at + 4, &count.to_le_bytes(), timed)
 }
 
 // Patches the revolution, and stores the moved checksum on a read-only image.
@@ -92,15 +73,12 @@ pub fn rewrite(
     revolution: u32,
     duration: u32,
     words: &[u8],
-) -> Rewritten
-    ensures result_value { of_rewritten result ≡ rewrite_answer edition image.old track revolution words.now }
+) -> Result<(), Refusal>
+    ensures result_value { of_rewritten (found result) ≡ rewrite_answer edition image.old track revolution words.now }
     ensures image_after { image.new ≡ after_rewrite edition image.old track revolution duration words.now }
 {
-    let found = scp_sharing::rewrite_fault(image, edition, track, revolution, words);
-    if found.number != 0 {
-        return Rewritten::Refused(found);
-    }
+    scp_sharing::rewrite_fault(image, edition, track, revolution, words)?;
     let e = scp_fields::track_entry(image, track);
     patch_summed(image, e, revolution, duration, words);
-    Rewritten::Done
+    Ok(())
 }

@@ -6,12 +6,13 @@ use lib.Dec.{T, eqb, ltb}
 use lib.IntN.{ℤ, pos}
 use lib.Ieee.{Float, nan, inf, fin, Format, binary64, prec, emax, low, up, down, unlike, odd, units, round, div, of_int, is_nan}
 use mathlib.Core.List.{List}
+use Rattle.std.specs.Prelude.{Some}
+use Rattle.std.specs.Prelude as std
 use Rattle.refusals.specs.Refusals.{passes}
 use Rattle.scp_fields.specs.declared.Edition.{Edition}
 use Rattle.scp_fields.specs.Header.{track_entry}
 use Rattle.scp_tracks.specs.Tracks.{duration_at}
 use Rattle.scp_speed.specs.Speeds.{rpm_of, longest, shortest, speeds_of}
-use Rattle.scp_speed.specs.declared.SpeedRange.TheVariants as range
 use Rattle.scp_lookup.specs.Questions.{track_question, revolution_question}
 use Rattle.scp.specs.Answers.{Answer, none, speed_answer, of_speed_range, track_speed_answer}
 use Rattle.scp_rows.specs.Rows.{Real}
@@ -78,7 +79,7 @@ speed_real v b t k =
     pick_real (passes (revolution_question v b t k)) _ _ (pick_real (eqb (duration_at b (track_entry b t) k) 0) none _ tt (rpm_real _, tt)) tt
 
 range_real : (x : Bool) (most least : ℕ)
-    → Real (of_speed_range (cond x range.None (range.Speeds (record { slowest = rpm_of most; fastest = rpm_of least }))))
+    → Real (of_speed_range (cond x std.None (Some (record { slowest = rpm_of most; fastest = rpm_of least }))))
 range_real true most least = tt
 range_real false most least = (rpm_real most, (rpm_real least, tt))
 

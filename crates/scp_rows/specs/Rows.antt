@@ -6,6 +6,8 @@ use Rattle.octets.specs.Numbers.{unsigned64}
 use Rattle.octets.specs.Sums.{byte_sum}
 use Rattle.scp.specs.Answers.{Answer, refused, none, numbers, footer, speeds, bytes}
 use Rattle.scp_book.specs.Book as book
+use Rattle.scp_rows.specs.declared.Kind.{Kind}
+use Rattle.scp_rows.specs.declared.Kind.TheVariants as kind
 use Rattle.scp_book.specs.Book.{Question}
 
 -- S-14: the question of a kind: 0 validate, 1 header, 2 footer, 3 track, 4 revolution, 5 flux, 6 speed, 7 track speed; another kind is a
@@ -19,6 +21,17 @@ question_of kind t k =
     (cond (eqb kind 5) (book.flux t k)
     (cond (eqb kind 6) (book.speed t k)
     (cond (eqb kind 7) (book.track_speed t) book.validate))))))
+
+-- S-14: the kind that a number names.
+unfoldable pub kind_of : ℕ → Kind
+kind_of n =
+    cond (eqb n 1) kind.Header
+    (cond (eqb n 2) kind.Footer
+    (cond (eqb n 3) kind.Track
+    (cond (eqb n 4) kind.Revolution
+    (cond (eqb n 5) kind.Flux
+    (cond (eqb n 6) kind.Speed
+    (cond (eqb n 7) kind.TrackSpeed kind.Validate))))))
 
 -- ---- a row of 16 numbers: refusal number, position, the values, then zeros
 

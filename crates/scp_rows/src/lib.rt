@@ -2,38 +2,52 @@
 #![tactic(auto)]
 
 ghost use Rattle.std.specs.Prelude.{◌≡◌, replicate};
-ghost use Rattle.scp.specs.Answers.{refused, none, bytes, validate_answer, header_answer, of_footer_data, footer_answer, track_answer, revolution_answer, flux_answer, of_speed_only, speed_answer, track_speed_answer};
+ghost use Rattle.refusals.specs.Refusals.{number_of};
+ghost use Rattle.scp.specs.Answers.{refused, none, bytes, validate_answer, header_answer, footer_answer, track_answer, revolution_answer, flux_answer, of_speed_only, speed_answer, track_speed_answer};
 ghost use Rattle.scp_book.specs.Book.{asked};
 ghost use Rattle.copies.specs.Copying.{copied_at};
-ghost use Rattle.scp_rows.specs.Rows.{question_of, row_of, Real};
+ghost use Rattle.scp_rows.specs.Rows.{question_of, kind_of, row_of, Real};
 
 use refusals::Refusal;
-use scp::{FooterAnswer, HeaderAnswer, SpeedAnswer, TrackSpeedAnswer, Validated};
 use scp_fields::Edition;
-use scp_lookup::{RevolutionAnswer, TrackAnswer};
-use scp_speed::Speed;
 
-// The kinds of questions; any other is a validation.
-const HEADER: u64 = 1;
+// The kinds of questions (S-14).
+#[derive(Clone, Copy, Debug, PartialEq, Eq)]
+pub enum Kind {
+    Validate,
+    Header,
+    Footer,
+    Track,
+    Revolution,
+    Flux,
+    Speed,
+    TrackSpeed,
+}
 
-const FOOTER: u64 = 2;
+// The kind that a number names; any other is a validation.
+impl From<u64> for Kind {
+    ghost from_gives = { λ number kind. kind ≡ kind_of number };
 
-const TRACK: u64 = 3;
-
-const REVOLUTION: u64 = 4;
-
-const FLUX: u64 = 5;
-
-const SPEED: u64 = 6;
-
-const TRACK_SPEED: u64 = 7;
+    fn from(number: u64) -> Kind {
+        match number {
+            1 => Kind::Header,
+            2 => Kind::Footer,
+            3 => Kind::Track,
+            4 => Kind::Revolution,
+            5 => Kind::Flux,
+            6 => Kind::Speed,
+            7 => Kind::TrackSpeed,
+            _ => Kind::Validate,
+        }
+    }
+}
 
 // The row of an answer with values: behind number 0 and position 0.
 fn values_row(values: &[u64]) -> [u64; 16]
     ensures { result ≡ copied_at (replicate 16 0) 2 values.now }
 {
     let mut row = [0; 16];
-    copies::numbers(&mut row, 2, values);
+    copies::copy(&mut row, 2, values);
     row
 }
 
@@ -46,10 +60,10 @@ pub fn plain_row() -> [u64; 16]
 
 // The row of a refusal.
 pub fn refused_row(refusal: Refusal) -> [u64; 16]
-    ensures { result ≡ row_of (refused refusal.number refusal.position) }
+    ensures { result ≡ row_of (refused (number_of refusal.reason) refusal.position) }
 {
     let mut row = [0; 16];
-    row[0] = refusal.number as u64;
+    row[0] = u64::from(refusal.reason.number());
     row[1] = refusal.position;
     row
 }
@@ -60,8 +74,8 @@ fn validate_row(image: &[u8], edition: Edition) -> [u64; 16]
 {
     let found = scp::validate(image, edition);
     match found {
-        Validated::Valid => plain_row(),
-        Validated::Refused(r) => refused_row(r),
+        Ok(()) => plain_row(),
+        Err(r) => refused_row(r),
     }
 }
 
@@ -71,8 +85,8 @@ fn header_row(image: &[u8], edition: Edition) -> [u64; 16]
 {
     let found = scp::header(image, edition);
     match found {
-        HeaderAnswer::Found(h) => values_row(&scp_values::header_numbers(h)),
-        HeaderAnswer::Refused(r) => refused_row(r),
+        Ok(h) => values_row(&scp_values::header_numbers(h)),
+        Err(r) => refused_row(r),
     }
 }
 
@@ -82,9 +96,9 @@ fn footer_row(image: &[u8], edition: Edition) -> [u64; 16]
 {
     let found = scp::footer(image, edition);
     match found {
-        FooterAnswer::Found(f) => values_row(&scp_values::footer_numbers(f)),
-        FooterAnswer::None => plain_row(),
-        FooterAnswer::Refused(r) => refused_row(r),
+        Ok(Some(f)) => values_row(&scp_values::footer_numbers(f)),
+        Ok(None) => plain_row(),
+        Err(r) => refused_row(r),
     }
 }
 
@@ -94,8 +108,8 @@ fn track_row(image: &[u8], edition: Edition, track: u32) -> [u64; 16]
 {
     let found = scp::track(image, edition, track);
     match found {
-        TrackAnswer::Found(d) => values_row(&scp_values::track_numbers(d)),
-        TrackAnswer::Refused(r) => refused_row(r),
+        Ok(d) => values_row(&scp_values::track_numbers(d)),
+        Err(r) => refused_row(r),
     }
 }
 
@@ -105,8 +119,8 @@ fn revolution_row(image: &[u8], edition: Edition, track: u32, revolution: u32) -
 {
     let found = scp::revolution(image, edition, track, revolution);
     match found {
-        RevolutionAnswer::Found(d) => values_row(&scp_values::revolution_numbers(d)),
-        RevolutionAnswer::Refused(r) => refused_row(r),
+        Ok(d) => values_row(&scp_values::revolution_numbers(d)),
+        Err(r) => refused_row(r),
     }
 }
 
@@ -115,7 +129,7 @@ fn bytes_row(start: u64, part: &[u8]) -> [u64; 16]
     ensures { result ≡ row_of (bytes start part.now) }
 {
     let sum = octets::byte_sum(part);
-    values_row(&[start, part.len() as u64, sum as u64])
+    values_row(&[start, part.len() as u64, u64::from(sum)])
 }
 
 // The row of a revolution's flux.
@@ -124,22 +138,22 @@ fn flux_row(image: &[u8], edition: Edition, track: u32, revolution: u32) -> [u64
 {
     let answer = scp::revolution(image, edition, track, revolution);
     match answer {
-        RevolutionAnswer::Found(d) => {
+        Ok(d) => {
             let offset = d.offset;
             bytes_row(offset.0, scp_lookup::flux_of(image, d))
         }
-        RevolutionAnswer::Refused(r) => refused_row(r),
+        Err(r) => refused_row(r),
     }
 }
 
 // The row of one speed, or of none.
-fn rpm_row(s: Speed) -> [u64; 16]
+fn rpm_row(s: Option<f64>) -> [u64; 16]
     requires { Real (of_speed_only s) }
     ensures { result ≡ row_of (of_speed_only s) }
 {
     match s {
-        Speed::Rpm(x) => values_row(&[1, f64::to_bits(x)]),
-        Speed::None => plain_row(),
+        Some(x) => values_row(&[1, f64::to_bits(x)]),
+        None => plain_row(),
     }
 }
 
@@ -149,8 +163,8 @@ fn speed_row(image: &[u8], edition: Edition, track: u32, revolution: u32) -> [u6
 {
     let found = scp::speed(image, edition, track, revolution);
     match found {
-        SpeedAnswer::Found(s) => rpm_row(s),
-        SpeedAnswer::Refused(r) => refused_row(r),
+        Ok(s) => rpm_row(s),
+        Err(r) => refused_row(r),
     }
 }
 
@@ -160,13 +174,9 @@ fn track_speed_row(image: &[u8], edition: Edition, track: u32) -> [u64; 16]
 {
     let found = scp::track_speed(image, edition, track);
     match found {
-        TrackSpeedAnswer::Found(s) => values_row(&[
-            1,
-            f64::to_bits(s.slowest),
-            f64::to_bits(s.fastest),
-        ]),
-        TrackSpeedAnswer::None => plain_row(),
-        TrackSpeedAnswer::Refused(r) => refused_row(r),
+        Ok(Some(s)) => values_row(&[1, f64::to_bits(s.slowest), f64::to_bits(s.fastest)]),
+        Ok(None) => plain_row(),
+        Err(r) => refused_row(r),
     }
 }
 
@@ -180,26 +190,14 @@ pub fn question_row(
 ) -> [u64; 16]
     ensures { result ≡ row_of (asked edition image.now (question_of kind track revolution)) }
 {
-    if kind == HEADER {
-        return header_row(image, edition);
+    match Kind::from(kind) {
+        Kind::Validate => validate_row(image, edition),
+        Kind::Header => header_row(image, edition),
+        Kind::Footer => footer_row(image, edition),
+        Kind::Track => track_row(image, edition, track),
+        Kind::Revolution => revolution_row(image, edition, track, revolution),
+        Kind::Flux => flux_row(image, edition, track, revolution),
+        Kind::Speed => speed_row(image, edition, track, revolution),
+        Kind::TrackSpeed => track_speed_row(image, edition, track),
     }
-    if kind == FOOTER {
-        return footer_row(image, edition);
-    }
-    if kind == TRACK {
-        return track_row(image, edition, track);
-    }
-    if kind == REVOLUTION {
-        return revolution_row(image, edition, track, revolution);
-    }
-    if kind == FLUX {
-        return flux_row(image, edition, track, revolution);
-    }
-    if kind == SPEED {
-        return speed_row(image, edition, track, revolution);
-    }
-    if kind == TRACK_SPEED {
-        return track_speed_row(image, edition, track);
-    }
-    validate_row(image, edition)
 }

@@ -15,21 +15,8 @@ use Rattle.scp_fields.specs.Header.{footer_size, has_footer}
 use Rattle.scp_fields.specs.Footer.{footer_at}
 use Rattle.scp_tracks.specs.Tracks.{header_size, revolution_at}
 use Rattle.scp_sharing.specs.Extents.{extent, between, any_of, joined}
-use Rattle.scp_sharing.specs.Claims.{hit, flux_extent, header_claims, flux_claim, flux_claims, track_claim, track_claims, string_claim, string_claims, footer_claims, claims}
+use Rattle.scp_sharing.specs.Claims.{flux_extent, header_claims, flux_claim, flux_claims, track_claim, track_claims, string_claim, string_claims, footer_claims, claims}
 use Rattle.scp_sharing.specs.declared.Extent.{Extent}
-use Rattle.scp_sharing.specs.declared.Stand.{Stand}
-
--- ---- extents
-
-pub extent_is : {s s' n n' : ℕ} → s ≡ s' → n ≡ n' → extent s n ≡ extent s' n'
-extent_is {s} {s'} {n} {n'} e f = cc
-
-pub stand_is : {n n' : ℕ} {x x' : Extent} → n ≡ n' → x ≡ x'
-    → ◌≡◌ {A = Stand} (record { numbers = extent n 8; flux = x }) (record { numbers = extent n' 8; flux = x' })
-stand_is {n} {n'} {x} {x'} e f = cc
-
-pub or_same : {p q x y : Bool} → p ≡ x → q ≡ y → (p || q) ≡ (x || y)
-or_same {p} {q} {x} {y} e f = cc
 
 module _ (p : Extent → Bool) where
   -- ---- lists
@@ -114,16 +101,3 @@ module _ (p : Extent → Bool) where
         → any_of p (claims v b t k) ≡ (p (extent 0 (table_end v)) || (any_of p (track_claims v b t k) || any_of p (footer_claims v b)))
     unfolding claims any_of
     claims_parts t k = ap (λ (z : Bool). p (extent 0 (table_end v)) || z) (any_append (track_claims v b t k) (footer_claims v b))
-
--- ---- a track header as the walk takes it: at is where the record stands, n the header's size
-
-module _ (s : Stand) (b : List ℕ) (t k u e : ℕ) {n : ℕ} where
-  pub own_hit : {at : ℕ} {x y : Extent} {p q : Bool} → u ≡ t → at ≡ revolution_at e k → n ≡ header_size b
-      → p ≡ hit s x → x ≡ between e at → q ≡ hit s y → y ≡ between (at + 8) (e + n) → (p || q) ≡ any_of (hit s) (header_claims b t k u e)
-  own_hit own a z hx x hy y =
-      let before = hx ∙ ap (hit s) (x ∙ ap (between e) a) in
-      let behind = hy ∙ ap (hit s) (y ∙ ap (λ (i : ℕ). between (i + 8) (e + n)) a ∙ ap (λ (i : ℕ). between (revolution_at e k + 8) (e + i)) z) in
-      or_same before behind ∙ sym (header_own (hit s) b t k u e own)
-
-  pub other_hit : {p : Bool} → u ≢ t → n ≡ header_size b → p ≡ hit s (extent e n) → p ≡ any_of (hit s) (header_claims b t k u e)
-  other_hit other z h = h ∙ ap (λ (i : ℕ). hit s (extent e i)) z ∙ sym (header_other (hit s) b t k u e other)

@@ -9,6 +9,7 @@ use native.Mathlib.Omega.{arith}
 use lib.ListN.{length}
 use lib.Dec.{eqb, leb}
 use borrow.Author.Tests.{leb-false}
+use Rattle.std.specs.Prelude.{Ok, Err, Result}
 use Rattle.refusals.specs.Refusals.{Fault, none, refusal, passes, refuse_if, first_of}
 use Rattle.refusals.specs.Refusals as refusals
 use Rattle.refusals.proofs.Chain.{first_next}
@@ -23,10 +24,9 @@ use Rattle.scp_tracks.specs.Tracks.{count_at, track_fault, tracks_fault}
 use Rattle.scp_tracks.specs.Revolutions.{data_of, revolution_fault}
 use Rattle.scp_open.specs.Opening.{open_fault}
 use Rattle.scp_open.proofs.Opens.{clear_open}
+use Rattle.scp_tracks.specs.declared.RevolutionData.{RevolutionData}
 use Rattle.scp_lookup.specs.Questions.{track_then, track_question, revolution_question}
 use Rattle.scp_lookup.specs.Lookups.{found_revolution, part_of, start_of}
-use Rattle.scp_lookup.specs.declared.RevolutionAnswer.{RevolutionAnswer}
-use Rattle.scp_lookup.specs.declared.RevolutionAnswer.TheVariants as revolution-answer
 use Rattle.scp_lookup.proofs.Asking.{then_open, opens_then}
 use Rattle.scp_lookup.proofs.FoundLaws.{then_first}
 use Rattle.scp.specs.Answers.{Answer, refused, numbers, bytes, unless, track_values, track_answer, revolution_values, revolution_answer, flux_start, flux_part}
@@ -89,7 +89,7 @@ module _ (v : Edition) (b : List ℕ) (opens : open_fault v b ≡ none) where
   same_found : (t k : ℕ) → direct_found v b t k ≡ found_revolution v b t k
   unfolding direct_found found_revolution
   same_found t k =
-      ap (λ (q : Fault). refusals.unless q (revolution-answer.Found (data_of b (track_entry b t) k)) revolution-answer.Refused)
+      ap (λ (q : Fault). refusals.unless q (Ok (data_of b (track_entry b t) k)) Err)
       (same_revolution t k)
 
   pub same_answers : SameAnswers v b
@@ -99,7 +99,7 @@ module _ (v : Edition) (b : List ℕ) (opens : open_fault v b ≡ none) where
         track = λ t. ap (λ (q : Fault). unless q (track_values b t)) (same_track t);
         revolution = λ t k. ap (λ (q : Fault). unless q (revolution_values b t k)) (same_revolution t k);
         flux = λ t k.
-            ap (λ (r : RevolutionAnswer). unless (direct_revolution_question v b t k) (bytes (start_of r) (part_of b r))) (same_found t k)
+            ap (λ (r : Result RevolutionData Fault). unless (direct_revolution_question v b t k) (bytes (start_of r) (part_of b r))) (same_found t k)
             ∙ ap (λ (q : Fault). unless q (bytes (flux_start v b t k) (flux_part v b t k))) (same_revolution t k);
         part = λ t k. ap (part_of b) (same_found t k);
         start = λ t k. ap start_of (same_found t k);
@@ -210,7 +210,7 @@ pub direct_length : (v : Edition) (b : List ℕ) (t k : ℕ) → (direct_revolut
     → length (direct_part v b t k) ≡ 2 * count_at b (track_entry b t) k
 direct_length v b t k z =
     let found = direct_is_found v b t k z in
-    ap (λ (r : RevolutionAnswer). length (part_of b r)) (sym found) ∙ part_length b _ _ (direct_within v b t k _ found)
+    ap (λ (r : Result RevolutionData Fault). length (part_of b r)) (sym found) ∙ part_length b _ _ (direct_within v b t k _ found)
 
 pub direct_flux_is_counted : DirectFluxIsCounted
 unfolding direct_revolution

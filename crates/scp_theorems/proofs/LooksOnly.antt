@@ -10,6 +10,7 @@ use native.Mathlib.Omega.{arith}
 use lib.ListN.{length}
 use lib.Dec.{eqb, leb}
 use borrow.Author.Tests.{eqb-true, eqb-false, leb-false}
+use Rattle.std.specs.Prelude.{Result, Ok, Err}
 use Rattle.octets.specs.Numbers.{byte_at, le32_at}
 use Rattle.octets.proofs.Numbers.{le_same}
 use Rattle.refusals.specs.Refusals.{Fault, refusal, passes, refuse_if, first_of}
@@ -27,8 +28,6 @@ use Rattle.scp_tracks.specs.Tracks.{revolution_at, count_at, distance_at, bad_sl
 use Rattle.scp_tracks.specs.Revolutions.{data_of}
 use Rattle.scp_tracks.specs.declared.RevolutionData.{RevolutionData}
 use Rattle.scp_lookup.specs.Lookups.{part_of, start_of}
-use Rattle.scp_lookup.specs.declared.RevolutionAnswer.{RevolutionAnswer}
-use Rattle.scp_lookup.specs.declared.RevolutionAnswer.TheVariants.{Found, Refused}
 use Rattle.scp.specs.Answers.{Answer, refused, unless, track_values, revolution_values}
 use Rattle.scp_direct.specs.Direct.{direct_track_question, direct_revolution_question, direct_found, direct_track, direct_revolution, direct_part, direct_start}
 use Rattle.scp_direct.proofs.DirectLaws.{direct_there, direct_below, direct_is_found, direct_within}
@@ -181,9 +180,9 @@ module _ (v : Edition) (t : ℕ) (b c : List ℕ) (s : SameTrack v t b c) where
   module _ (k : ℕ) where
     -- the revolution is refused in both, or found with the same numbers, and its flux lies in both
     pub data Looked : Type 0 where
-      neither : Refused (direct_revolution_question v b t k) ≡ direct_found v b t k
-          → Refused (direct_revolution_question v b t k) ≡ direct_found v c t k → Looked
-      both : (d : RevolutionData) → Found d ≡ direct_found v b t k → Found d ≡ direct_found v c t k → Looked
+      neither : Err (direct_revolution_question v b t k) ≡ direct_found v b t k
+          → Err (direct_revolution_question v b t k) ≡ direct_found v c t k → Looked
+      both : (d : RevolutionData) → Ok d ≡ direct_found v b t k → Ok d ≡ direct_found v c t k → Looked
 
     looked : Looked
     unfolding direct_found
@@ -195,25 +194,25 @@ module _ (v : Edition) (t : ℕ) (b c : List ℕ) (s : SameTrack v t b c) where
             let held = direct_below v b t k z in
             let zc = ap (λ (q : Fault). q.number) (sym (same_question k)) ∙ z in
             both (data_of b e k) (direct_is_found v b t k z)
-            (ap Found (same_data held.0.slot held.0.entry k held.1) ∙ direct_is_found v c t k zc)
+            (ap Ok (same_data held.0.slot held.0.entry k held.1) ∙ direct_is_found v c t k zc)
         by false p =
             let n = eqb-false _ 0 p in
-            neither (unless_refused (direct_revolution_question v b t k) _ Refused refl n)
-            (unless_refused (direct_revolution_question v c t k) _ Refused (same_question k) n)
+            neither (unless_refused (direct_revolution_question v b t k) _ Err refl n)
+            (unless_refused (direct_revolution_question v c t k) _ Err (same_question k) n)
 
     same_start : direct_start v b t k ≡ direct_start v c t k
     same_start = elim looked [ neither x y ↦ ap start_of (sym x ∙ y) | both d x y ↦ ap start_of (sym x ∙ y) ]
 
-    part_size : (d : RevolutionData) (a : List ℕ) → d.offset.0 + 2 * d.words ≤ length a → length (part_of a (Found d)) ≡ 2 * d.words
+    part_size : (d : RevolutionData) (a : List ℕ) → d.offset.0 + 2 * d.words ≤ length a → length (part_of a (Ok d)) ≡ 2 * d.words
     part_size d a h = part_length a d.offset.0 (2 * d.words) h
 
     same_size : length (direct_part v b t k) ≡ length (direct_part v c t k)
     same_size =
         elim looked [
-          | neither x y ↦ ap (λ (r : RevolutionAnswer). length (part_of b r)) (sym x) ∙ ap (λ (r : RevolutionAnswer). length (part_of c r)) y
+          | neither x y ↦ ap (λ (r : Result RevolutionData Fault). length (part_of b r)) (sym x) ∙ ap (λ (r : Result RevolutionData Fault). length (part_of c r)) y
           | both d x y ↦
-              ap (λ (r : RevolutionAnswer). length (part_of b r)) (sym x) ∙ part_size d b (direct_within v b t k d x)
-              ∙ sym (part_size d c (direct_within v c t k d y)) ∙ ap (λ (r : RevolutionAnswer). length (part_of c r)) y
+              ap (λ (r : Result RevolutionData Fault). length (part_of b r)) (sym x) ∙ part_size d b (direct_within v b t k d x)
+              ∙ sym (part_size d c (direct_within v c t k d y)) ∙ ap (λ (r : Result RevolutionData Fault). length (part_of c r)) y
         ]
 
     same_part : SameBytes b c (direct_start v b t k) (length (direct_part v b t k)) → direct_part v b t k ≡ direct_part v c t k
@@ -223,7 +222,7 @@ module _ (v : Edition) (t : ℕ) (b c : List ℕ) (s : SameTrack v t b c) where
           | both d x y ↦
               (let start : direct_start v b t k ≡ d.offset.0 = ap start_of (sym x) in
               let size : length (direct_part v b t k) ≡ 2 * d.words =
-              ap (λ (r : RevolutionAnswer). length (part_of b r)) (sym x) ∙ part_size d b (direct_within v b t k d x) in
+              ap (λ (r : Result RevolutionData Fault). length (part_of b r)) (sym x) ∙ part_size d b (direct_within v b t k d x) in
               ap (part_of b) (sym x)
               ∙ part_same (2 * d.words) b c d.offset.0 d.offset.0 (direct_within v b t k d x) (direct_within v c t k d y) (λ j l.
               bytes (d.offset.0 + j) (omega arith) (omega arith))

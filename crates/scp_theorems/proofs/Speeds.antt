@@ -17,13 +17,13 @@ use lib.Ieee.Scale.{round_same}
 use lib.Ieee.Order.{round_mono}
 use lib.Ieee.Positive.{num, den, positive, den_pos, value→cross, positive_of_value}
 use borrow.Author.Tests.{ne_eqb, eq-eqb, eqb-true}
+use Rattle.std.specs.Prelude.{Some, None}
 use Rattle.octets.specs.Numbers.{Octets}
 use Rattle.octets.proofs.Numbers.{le_bound}
 use Rattle.scp_fields.specs.Header.{revolutions}
 use Rattle.scp_tracks.specs.Tracks.{duration_at, revolution_at}
 use Rattle.scp_speed.specs.Speeds.{rpm_of, speed_of, longest, shortest, speeds_of}
 use Rattle.scp_speed.specs.declared.TrackSpeeds.{TrackSpeeds}
-use Rattle.scp_speed.specs.declared.SpeedRange.TheVariants as range
 use Rattle.scp_theorems.specs.Theorems.{CastsExact, RoundedOnce, SlowestFastest, NoSpeed, ThreeHundred}
 use Rattle.scp_theorems.proofs.Durations.{longest_is_greatest, shortest_is_least}
 
@@ -117,7 +117,7 @@ longest_zero b e =
     )
 
 -- speeds, or none where the test holds
-none_by : (x : Bool) (s : TrackSpeeds) → cond x range.None (range.Speeds s) ≡ range.None → x ≡ true
+none_by : (x : Bool) (s : TrackSpeeds) → cond x None (Some s) ≡ None → x ≡ true
 none_by true s e = refl
 none_by false s e = let z : ◌≡◌ {A = ℕ} 0 1 = cc in absurd (omega arith)
 

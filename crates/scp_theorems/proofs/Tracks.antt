@@ -9,6 +9,7 @@ use mathlib.Core.Bool.{Bool, true, false, cond}
 use native.Mathlib.Omega.{arith}
 use lib.ListN.{length}
 use borrow.Author.Tests.{eqb-true, ne_eqb, le-ltb}
+use Rattle.std.specs.Prelude.{Ok, Err, Result}
 use Rattle.refusals.specs.Refusals.{Fault, none, passes}
 use Rattle.flux.proofs.AnswerLaws.{places_only}
 use Rattle.flux_theorems.proofs.Closing.{two_lists}
@@ -23,8 +24,6 @@ use Rattle.scp_tracks.specs.declared.RevolutionData.{RevolutionData}
 use Rattle.scp_open.proofs.Opens.{opens}
 use Rattle.scp_lookup.specs.Questions.{revolution_question}
 use Rattle.scp_lookup.specs.Lookups.{found_revolution, flux_of, part_of}
-use Rattle.scp_lookup.specs.declared.RevolutionAnswer.{RevolutionAnswer}
-use Rattle.scp_lookup.specs.declared.RevolutionAnswer.TheVariants as revolution-answer
 use Rattle.scp_lookup.proofs.FoundLaws.{FoundData, revolution_there, revolution_found, found_data, found_refused, flux_within}
 use Rattle.scp.specs.Answers.{refused, numbers, unless, revolution_values, revolution_answer, flux_part, read_from}
 use Rattle.scp_theorems.proofs.Numbers.{footer_number, open_number, asked_number}
@@ -108,9 +107,9 @@ module _ (v : Edition) (b : List ℕ) (t k places p : ℕ) where
       let times = intervals 0 (words_of (flux_of b d)) in
       places_only places (length times ∷ open_time 0 (words_of (flux_of b d)) ∷ []) times p (passed _ _ p (good_found v b t k h) e)
 
-  never : (r : RevolutionAnswer) → r ≡ found_revolution v b t k → read_from reading b places r ≢ refuses words_refused p
-  never (revolution-answer.Found d) h = read_whole (found_data v b t k h)
-  never (revolution-answer.Refused f) h = λ e.
+  never : (r : Result RevolutionData Fault) → r ≡ found_revolution v b t k → read_from reading b places r ≢ refuses words_refused p
+  never (Ok d) h = read_whole (found_data v b t k h)
+  never (Err f) h = λ e.
       let same : f.number ≡ 17 = ap number_of e in
       let number = ap (λ (x : Fault). x.number) (found_refused v b t k h).refuses in
       between (revolution_asked v b t k) (omega arith) (omega arith) (sym number ∙ same)
@@ -123,19 +122,19 @@ never_words v b t k places p = never v b t k places p (found_revolution v b t k)
 -- of flux that is read, and of what refuses the revolution
 module _ (v : Edition) (b : List ℕ) (t k : ℕ) (times closings : List ℕ) where
   -- the record over what was found
-  record Found (r : RevolutionAnswer) : Type 0 where
+  record Found (r : Result RevolutionData Fault) : Type 0 where
     plain : length (closing_numbers 0 (words_of (part_of b r))) ≤ length closings
         → read_from reading b (min (length times) (length closings)) r ≡ read_from reading b (length times) r
     short : (read_from reading b (min (length times) (length closings)) r ≡ refuses places_refused 0)
         ↔ ((length times < length (intervals 0 (words_of (part_of b r)))) ⊎ (length closings < length (closing_numbers 0 (words_of (part_of b r)))))
     together : answer_of (read_from closing_reading b (min (length times) (length closings)) r) ≡ answer_of (read_from reading b (min (length times) (length closings)) r)
 
-  lists_of : (r : RevolutionAnswer) → r ≡ found_revolution v b t k → Found r
+  lists_of : (r : Result RevolutionData Fault) → r ≡ found_revolution v b t k → Found r
   unfolding words_of intervals closing_numbers
-  lists_of (revolution-answer.Found d) h =
+  lists_of (Ok d) h =
       let both = two_lists (flux_of b d) times closings in
       record { plain = both.plain; short = both.short (good_found v b t k (found_data v b t k h)); together = both.together }
-  lists_of (revolution-answer.Refused f) h =
+  lists_of (Err f) h =
       let number = ap (λ (x : Fault). x.number) (found_refused v b t k h).refuses in
       record {
         plain = λ _. refl;

@@ -1,5 +1,5 @@
 -- What the definitions of editions, validating, asking and speeds are proved to mean. The proofs stand in proofs/.
-use Rattle.std.specs.Prelude.{ℕ, ◌+◌, ◌*◌, ◌<◌, ◌≤◌, ◌≡◌, ◌↔◌, ◌⊎◌, ◌≢◌, List, [], ◌∷◌, true, false, length, pos}
+use Rattle.std.specs.Prelude.{ℕ, ◌+◌, ◌*◌, ◌<◌, ◌≤◌, ◌≡◌, ◌↔◌, ◌⊎◌, ◌≢◌, List, [], ◌∷◌, true, false, length, pos, Some, None}
 use Rattle.std.specs.Float.{binary64}
 use Rattle.std.specs.Float.Ieee.{of_int, to_unsigned, round, le}
 use Rattle.std.specs.Float.Ieee.Exact.{HasValue}
@@ -17,8 +17,6 @@ use Rattle.scp_open.specs.Opening.{open_fault}
 use Rattle.scp_lookup.specs.Questions.{track_then, revolution_then}
 use Rattle.scp_open.specs.Validity.{Opens}
 use Rattle.scp_speed.specs.Speeds.{rpm_of, speed_of, longest, shortest, speeds_of}
-use Rattle.scp_speed.specs.declared.Speed.TheVariants.{Rpm}
-use Rattle.scp_speed.specs.declared.SpeedRange.TheVariants as range
 use Rattle.scp.specs.Validating.{validate_fault}
 use Rattle.scp.specs.Answers as answers
 use Rattle.scp.specs.Answers.{numbers, footer_answer, revolution_answer, flux_part, revolution_reading, revolution_closed_times, revolution_closed_numbers}
@@ -139,8 +137,8 @@ SlowestFastest =
 
 -- A track has no speed exactly if all its durations are 0 (T-12).
 abbrev pub NoSpeed : Type 0
-NoSpeed = (b : List ℕ) (e : ℕ) → (speeds_of b e ≡ range.None) ↔ ((k : ℕ) → k < revolutions b → duration_at b e k ≡ 0)
+NoSpeed = (b : List ℕ) (e : ℕ) → (speeds_of b e ≡ None) ↔ ((k : ℕ) → k < revolutions b → duration_at b e k ≡ 0)
 
 -- A duration of 8,000,000 ticks is exactly 300.0 rpm (X-9).
 abbrev pub ThreeHundred : Type 0
-ThreeHundred = speed_of 8_000_000 ≡ Rpm (of_int binary64 (pos 300))
+ThreeHundred = speed_of 8_000_000 ≡ Some (of_int binary64 (pos 300))

@@ -1,20 +1,19 @@
 -- Replaying a lent list of calls on the image: what it answers, and what it does to the image and to the places for the answers.
-use Rattle.std.specs.Prelude.{ℕ, ◌*◌, ◌/◌, ◌≡◌, List, [], Bool, true, false, cond, length, leb}
+use Rattle.std.specs.Prelude.{ℕ, ◌*◌, ◌/◌, ◌≡◌, List, [], Bool, true, false, cond, length, leb, Result, Ok, Err}
+use Rattle.refusals.specs.Refusals.{Fault}
 use Rattle.scp.specs.Answers.{Answer, refused, numbers}
 use Rattle.scp_book.specs.Claim.{Sequence}
 use Rattle.scp_rows.specs.Rows.{answer_size}
 use Rattle.sequence.specs.Calls.{call_size, calls_of, places_after}
-use Rattle.sequence.specs.declared.Replayed.{Replayed}
-use Rattle.sequence.specs.declared.Replayed.TheVariants as replayed
 
 -- S-21: whether there are 16 places for each call.
 abbrev pub enough : List ℕ → ℕ → Bool
 enough calls places = leb (answer_size * (length calls / call_size)) places
 
 -- A-14: number and values of each case of a replay.
-abbrev pub of_replayed : Replayed → Answer
-of_replayed replayed.Done = numbers []
-of_replayed (replayed.Refused r) = refused r.number r.position
+abbrev pub of_replayed : Result Unit Fault → Answer
+of_replayed (Ok u) = numbers []
+of_replayed (Err r) = refused r.number r.position
 
 -- A-14, S-21: refusal 15 where there are fewer than 16 places a call.
 abbrev pub replay_answer : List ℕ → ℕ → Answer

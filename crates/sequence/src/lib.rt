@@ -2,6 +2,7 @@
 #![tactic(auto)]
 
 ghost use Rattle.std.specs.Prelude.{◌≡◌, ◌+◌, ◌*◌, ◌/◌, ◌≤◌, length};
+ghost use Rattle.refusals.specs.Refusals.{found};
 ghost use Rattle.scp_rewrite.specs.Rewriting.{after_rewrite};
 ghost use Rattle.scp_rewrite.specs.Answering.{rewrite_answer};
 ghost use Rattle.scp_book.specs.Book.{answer, after, final_bytes, answers as answers_of};
@@ -9,16 +10,8 @@ ghost use Rattle.scp_rows.specs.Rows.{answer_size, row_of};
 ghost use Rattle.sequence.specs.Calls.{call_size, capped, call_at, calls_of, places_after};
 ghost use Rattle.sequence.specs.Replaying.{of_replayed, replay_answer, Replays};
 
-use refusals::Refusal;
+use refusals::{Reason, Refusal};
 use scp_fields::Edition;
-use scp_rewrite::Rewritten;
-
-// Whether the calls were made.
-#[derive(Clone, Copy)]
-pub enum Replayed {
-    Done,
-    Refused(Refusal),
-}
 
 // The kind of a rewrite; any other is a question.
 const REWRITE: u64 = 8;
@@ -32,10 +25,7 @@ const ANSWER_SIZE: usize = 16;
 fn cap(n: u64) -> u32
     ensures { result ≡ capped n }
 {
-    if n <= 4_294_967_295 {
-        return n as u32;
-    }
-    4_294_967_295
+    u32::try_from(n).unwrap_or(u32::MAX)
 }
 
 // Rewrites a revolution, and hands back the row of the answer.
@@ -52,8 +42,8 @@ fn rewrite_row(
 {
     let found = scp_rewrite::rewrite(image, edition, track, revolution, duration, words);
     match found {
-        Rewritten::Done => scp_rows::plain_row(),
-        Rewritten::Refused(r) => scp_rows::refused_row(r),
+        Ok(()) => scp_rows::plain_row(),
+        Err(r) => scp_rows::refused_row(r),
     }
 }
 
@@ -67,7 +57,7 @@ fn call_row(image: &mut [u8], calls: &[u64], words: &[u8], i: usize) -> [u64; 16
     let kind = calls[at];
     let track = cap(calls[at + 1]);
     let revolution = cap(calls[at + 2]);
-    let edition = scp_fields::edition_of(calls[at + 6]);
+    let edition = Edition::from(calls[at + 6]);
     if kind == REWRITE {
         let duration = (calls[at + 3] % 4_294_967_296) as u32;
         let part = copies::part_of(words, calls[at + 4] as usize, calls[at + 5] as usize);
@@ -83,22 +73,25 @@ fn run_calls(image: &mut [u8], calls: &[u64], words: &[u8], answers: &mut [u64])
     ensures answers_after { answers.new ≡ places_after (answers_of image.old (calls_of calls.now words.now)) answers.old }
 {
     let n = calls.len() / CALL_SIZE;
-    let mut i = 0;
-    while i < n {
+    for i in 0..n {
         let row = call_row(image, calls, words, i);
-        copies::numbers(answers, ANSWER_SIZE * i, &row);
-        i += 1;
+        copies::copy(answers, ANSWER_SIZE * i, &row);
     }
 }
 
 // Runs the calls on the image, in order, and puts the row of each answer to the answers; the claim S holds of the whole sequence.
-pub fn replay(image: &mut [u8], calls: &[u64], words: &[u8], answers: &mut [u64]) -> Replayed
-    ensures result_value { of_replayed result ≡ replay_answer calls.now (length answers.old) }
+pub fn replay(
+    image: &mut [u8],
+    calls: &[u64],
+    words: &[u8],
+    answers: &mut [u64],
+) -> Result<(), Refusal>
+    ensures result_value { of_replayed (found result) ≡ replay_answer calls.now (length answers.old) }
     ensures replays { Replays image.old calls.now words.now answers.old image.new answers.new }
 {
     if answers.len() / ANSWER_SIZE < calls.len() / CALL_SIZE {
-        return Replayed::Refused(refusals::refuse(refusals::PLACES, 0));
+        return Err(Reason::Places.at(0));
     }
     run_calls(image, calls, words, answers);
-    Replayed::Done
+    Ok(())
 }

@@ -12,6 +12,12 @@ use lib.Seq.{drop-cons, drop-drop}
 use borrow.Author.Tests.{ne_eqb}
 use Rattle.utf8.specs.Table.{Range, holds, table, starts, size_by, sequence_size, good_from, valid_up_to}
 use Rattle.utf8.specs.Reading.{Passed}
+use lib.ListN.{take}
+use native.Mathlib.Nat.{add-zero}
+use Prim.Native.Nat.{◌*◌, ◌/◌}
+use Rattle.std.specs.Str.{IsAscii}
+use Rattle.std.specs.Simd.{first_chunks}
+use Rattle.octets.proofs.Sums.{block_at}
 use Rattle.utf8.proofs.Rows.{size_ascii}
 
 -- ---- a sequence lies in the text
@@ -95,6 +101,36 @@ pass_found s i (suc k) h e n = pass_size s i k h (sym e)
 
 pub pass_ascii : (s : List ℕ) (i : ℕ) → i < length s → get_or s i 0 < 0x80 → Passed s i (i + 1)
 pass_ascii s i h a = pass_size s i 0 (omega arith) (ap (λ (t : List ℕ). sequence_size t) (drop-cons s i 0 h) ∙ size_ascii _ _ a)
+
+-- Bytes of ASCII are passed, a run of them and blocks of them.
+pub pass_run : (s : List ℕ) (i n : ℕ) → i + n ≤ length s → IsAscii (take n (drop i s)) → Passed s i (i + n)
+pass_run s i zero h a = rw add-zero (pass_none (omega arith))
+pass_run s i (suc n) h a =
+    let l : i < length s = omega arith in
+    let t = rw (drop-cons s i 0 l) at a in
+    let e : i + 1 + n ≡ i + suc n = omega arith in
+    let d : suc i ≡ i + 1 = omega arith in
+    let rest : IsAscii (take n (drop (i + 1) s)) = rw (sym d) (λ k. t (suc k)) in
+    pass_then (pass_ascii s i l (t 0)) (rw e at (pass_run s (i + 1) n (omega arith) rest))
+
+pub pass_blocks : (s : List ℕ) (j : ℕ) → j ≤ length s / 64
+    → ((i : ℕ) → i < j → IsAscii (get_or (first_chunks 64 (length s / 64) s) i [])) → Passed s 0 (64 * j)
+pass_blocks s zero h a = pass_none (omega arith)
+pass_blocks s (suc j) h a =
+    let e : j * 64 + 64 ≡ 64 * suc j = omega arith in
+    let f : 64 * j ≡ j * 64 = omega arith in
+    let block : IsAscii (take 64 (drop (j * 64) s)) = rw (block_at 64 (length s / 64) s [] j (omega arith)) at (a j (omega arith)) in
+    pass_then
+    (rw f at (pass_blocks s j (omega arith) (λ i l. a i (omega arith))))
+    (rw e at (pass_run s (j * 64) 64 (omega arith) block))
+
+-- What is passed in the rest of a text is passed in the text.
+pub pass_rest : (s : List ℕ) (i k : ℕ) → i ≤ length s → Passed (drop i s) 0 k → Passed s i (i + k)
+pass_rest s i k h p =
+    let l = length-drop i s in
+    let d : drop k (drop i s) ≡ drop (i + k) s = drop-drop k i s in
+    let same = rw d at p.same in
+    record { within = omega (arith, p.within); onward = omega arith; same = omega (arith, same) }
 
 -- Where the text goes wrong, or ends, is where no more is passed.
 pub stops : (s : List ℕ) (i : ℕ) → Passed s 0 i → sequence_size (drop i s) ≡ 0 → i ≡ valid_up_to s

@@ -1,5 +1,5 @@
 -- The table as a program reads it: by the first byte of a sequence, and from place to place (UT-6).
-use Rattle.std.specs.Prelude.{ℕ, ◌+◌, ◌≤◌, ◌≡◌, List, cond, length, drop, eqb}
+use Rattle.std.specs.Prelude.{ℕ, ◌+◌, ◌<◌, ◌≤◌, ◌≡◌, List, Option, MatchOption, cond, length, drop, eqb}
 use Rattle.utf8.specs.Table.{valid_up_to}
 
 -- UT-6: the least second byte after the first byte a, where a sequence has two bytes or more.
@@ -15,3 +15,7 @@ pub record Passed (s : List ℕ) (i j : ℕ) : Type 0 where
   pub within : j ≤ length s
   pub onward : i ≤ j
   pub same : i + valid_up_to (drop i s) ≡ j + valid_up_to (drop j s)
+
+-- UT-6: how many bytes a sequence has, as the size that is found; none is found where none starts, which is size 0.
+abbrev pub Sized : Option ℕ → ℕ → Type 0
+Sized found size = MatchOption found (size ≡ 0) (λ k. (0 < k) × (k ≡ size))

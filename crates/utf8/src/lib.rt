@@ -1,10 +1,11 @@
 // UTF-8 by the Unicode Standard, section 3.9: whether bytes are well-formed, and up to where they are.
 #![tactic(auto)]
 
-ghost use Rattle.std.specs.Prelude.{◌≡◌, [], ◌∷◌, true, ◌+◌, ◌<◌, ◌≤◌, length, drop};
+ghost use Rattle.std.specs.Prelude.{◌≡◌, ℕ, [], ◌∷◌, true, ◌<◌, ◌≤◌, length, drop, take, slice_index_or};
+ghost use Rattle.std.specs.Str.{IsAscii};
 ghost use Rattle.copies.specs.Copying.{part};
 ghost use Rattle.utf8.specs.Table.{◌to◌, holds, sequence_size, valid_up_to, well_formed};
-ghost use Rattle.utf8.specs.Reading.{lowest, highest, Passed};
+ghost use Rattle.utf8.specs.Reading.{lowest, highest, Passed, Sized};
 
 // ---- one sequence
 
@@ -12,77 +13,55 @@ ghost use Rattle.utf8.specs.Reading.{lowest, highest, Passed};
 fn trails(b: u8) -> bool
     ensures { result ≡ holds (0x80 to 0xBF) b }
 {
-    (0x80 <= b) & (b <= 0xBF)
+    (0x80..=0xBF).contains(&b)
 }
 
 // The least second byte after the first byte a.
 fn lowest(a: u8) -> u8
     ensures { result ≡ lowest a }
 {
-    if a == 0xE0 {
-        return 0xA0;
+    match a {
+        0xE0 => 0xA0,
+        0xF0 => 0x90,
+        _ => 0x80,
     }
-    if a == 0xF0 {
-        return 0x90;
-    }
-    0x80
 }
 
 // The greatest second byte after the first byte a.
 fn highest(a: u8) -> u8
     ensures { result ≡ highest a }
 {
-    if a == 0xED {
-        return 0x9F;
+    match a {
+        0xED => 0x9F,
+        0xF4 => 0x8F,
+        _ => 0xBF,
     }
-    if a == 0xF4 {
-        return 0x8F;
-    }
-    0xBF
 }
 
 // Whether b can be the second byte after the first byte a.
 fn follows(a: u8, b: u8) -> bool
     ensures { result ≡ holds (lowest a to highest a) b }
 {
-    (lowest(a) <= b) & (b <= highest(a))
+    (lowest(a)..=highest(a)).contains(&b)
 }
 
-// How many bytes the sequence has that starts with these four, or 0. Past the end a byte is given as 0, which follows none.
-fn size_of(a: u8, b: u8, c: u8, d: u8) -> usize
-    ensures { result ≡ sequence_size (a ∷ b ∷ c ∷ d ∷ []) }
+// How many bytes the sequence has that starts with these four, if one does. Past the end a byte is given as 0, which follows none.
+fn size_of(a: u8, b: u8, c: u8, d: u8) -> Option<usize>
+    ensures { Sized result (sequence_size (a ∷ b ∷ c ∷ d ∷ [])) }
 {
-    if a < 0x80 {
-        return 1;
+    match a {
+        0x00..=0x7F => Some(1),
+        0xC2..=0xDF if trails(b) => Some(2),
+        0xE0..=0xEF if follows(a, b) & trails(c) => Some(3),
+        0xF0..=0xF4 if follows(a, b) & trails(c) & trails(d) => Some(4),
+        _ => None,
     }
-    if a < 0xC2 {
-        return 0;
-    }
-    if a < 0xE0 {
-        if trails(b) {
-            return 2;
-        }
-        return 0;
-    }
-    if a < 0xF0 {
-        if follows(a, b) & trails(c) {
-            return 3;
-        }
-        return 0;
-    }
-    if 0xF4 < a {
-        return 0;
-    }
-    if follows(a, b) & trails(c) & trails(d) {
-        return 4;
-    }
-    0
 }
 
-// How many bytes the sequence has that starts at this index, or 0 where none does.
-fn size_at(text: &[u8], at: usize) -> usize
+// How many bytes the sequence has that starts at this index, if one does.
+fn size_at(text: &[u8], at: usize) -> Option<usize>
     requires { at < length text.now }
-    ensures { result ≡ sequence_size (drop at text.now) }
+    ensures { Sized result (sequence_size (drop at text.now)) }
 {
     if 4 <= text.len() - at {
         return size_of(text[at], text[at + 1], text[at + 2], text[at + 3]);
@@ -97,51 +76,45 @@ fn size_at(text: &[u8], at: usize) -> usize
 
 // ---- ASCII, of which each byte is a sequence
 
-// True only if the 64 bytes from here on are ASCII: the compiler tests them at once.
-fn ascii_block(text: &[u8], at: usize) -> bool
-    requires { at + 64 ≤ length text.now }
-    ensures { result ≡ true → Passed text.now at (at + 64) }
+// True only if the block is ASCII: no test ends early, so the compiler makes them all at once.
+fn is_ascii_block(block: &[u8; 64]) -> bool
+    ensures { result ≡ true → IsAscii block.now }
 {
     let mut ascii = true;
-    let mut k = 0;
-    while k < 64 {
-        ascii = ascii & (text[at + k] < 0x80);
-        k += 1;
+    for b in block {
+        ascii &= b.is_ascii();
     }
     ascii
 }
 
-// Past the blocks of ASCII from here on.
-fn skip_blocks(text: &[u8], at: usize) -> usize
-    requires { at ≤ length text.now }
-    ensures { Passed text.now at result }
+// How many of the blocks are ASCII with which they start.
+fn ascii_blocks(blocks: &[[u8; 64]]) -> usize
+    ensures within { result ≤ length blocks.now }
+    ensures ascii { (i : ℕ) → i < result → IsAscii (slice_index_or blocks.now i []) }
 {
-    let n = text.len();
-    let mut i = at;
-    while 64 <= n - i {
-        if ascii_block(text, i) {
-            i += 64;
-        } else {
-            return i;
-        }
-    }
-    i
+    blocks
+        .iter()
+        .position(|block| !is_ascii_block(block))
+        .unwrap_or(blocks.len())
 }
 
-// Past the ASCII from here on.
-fn skip_ascii(text: &[u8], at: usize) -> usize
-    requires { at ≤ length text.now }
-    ensures { Passed text.now at result }
+// How many bytes of ASCII the text starts with, as far as it is searched one by one.
+fn ascii_bytes(text: &[u8]) -> usize
+    ensures within { result ≤ length text.now }
+    ensures ascii { IsAscii (take result text.now) }
 {
-    let n = text.len();
-    let mut i = skip_blocks(text, at);
-    while i < n {
-        if 0x80 <= text[i] {
-            return i;
-        }
-        i += 1;
-    }
-    i
+    text.iter()
+        .position(|b| !b.is_ascii())
+        .unwrap_or(text.len())
+}
+
+// How many bytes of ASCII the text starts with.
+fn ascii_len(text: &[u8]) -> usize
+    ensures { Passed text.now 0 result }
+{
+    let (blocks, _) = text.as_chunks::<64>();
+    let start = 64 * ascii_blocks(blocks);
+    start + ascii_bytes(&text[start..])
 }
 
 // ---- a text
@@ -150,20 +123,18 @@ fn skip_ascii(text: &[u8], at: usize) -> usize
 pub fn valid_up_to(text: &[u8]) -> usize
     ensures { result ≡ valid_up_to text.now }
 {
-    let n = text.len();
-    let mut i = 0;
-    while i < n {
-        if text[i] < 0x80 {
-            i = skip_ascii(text, i + 1);
+    let mut at = 0;
+    while at < text.len() {
+        if text[at].is_ascii() {
+            at += 1 + ascii_len(&text[at + 1..]);
         } else {
-            let k = size_at(text, i);
-            if k == 0 {
-                return i;
+            match size_at(text, at) {
+                Some(size) => at += size,
+                None => return at,
             }
-            i += k;
         }
     }
-    i
+    at
 }
 
 // Whether the text is well-formed.

@@ -11,6 +11,5 @@ pub fn valid_up_to(text: &[u8], out: &mut [u64]) -> u64
     ensures out_after { out.new ≡ out_after out.old (within (length out.old) (text_numbers text.now)) }
 {
     let n = utf8::valid_up_to(text);
-    let row = [n as u64];
-    boundary::give(out, &row)
+    boundary::give(out, &[n as u64])
 }

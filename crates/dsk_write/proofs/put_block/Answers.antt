@@ -6,4 +6,4 @@ pub returns : goal.returns
 returns c =
     let a = c.args in
     block_put a.image.now a.layout a.content.now a.track a.side c.requires.roomy c.locate_block-offsets.ensures c.put_info.ensures
-    c.bytes.ensures.out_after
+    c.copy.ensures.out_after

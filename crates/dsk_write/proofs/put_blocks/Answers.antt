@@ -3,23 +3,12 @@ use Prim.Native.Nat.{ℕ}
 use mathlib.Core.Path.{sym, ap, ◌∙◌}
 use native.Mathlib.Omega.{arith}
 use lib.Seq.{sets}
-use borrow.Author.Rules.{rules}
 use Rattle.dsk_fields.proofs.Strides.{track_after, first_part}
 use Rattle.dsk_layout.specs.Layouts.{track_length}
 use Rattle.dsk_write.specs.Images.{joined_from, block_offset, track_bytes}
-use Rattle.dsk_write.proofs.Stores.{store_start, store_next, store_end}
+use Rattle.dsk_write.proofs.Stores.{store_next, store_end}
 use Rattle.dsk_write.proofs.Sizes.{track_length_lem}
 use Rattle.dsk_write.proofs.put_blocks.Goals as goal
-
-pub loop-track-init : goal.loop-track-init
-loop-track-init c = let a = c.args in store_start (track_bytes a.layout a.content.now) (λ (t : ℕ). block_offset a.layout t 0) a.layout.tracks a.image.now
-
-pub put_track-requires : goal.put_track-requires
-put_track-requires c =
-    record {
-      roomy = record { few = c.requires.few; all = c.requires.all; room = omega arith };
-      track_lt_tracks = search rules;
-    }
 
 pub loop-track-preserved : goal.loop-track-preserved
 loop-track-preserved c =
@@ -28,9 +17,6 @@ loop-track-preserved c =
     let size = track_length_lem a.layout a.content.now c.requires.few c.requires.all c.loop-track-test.true in
     let next = track_after a.layout.sides (track_length a.layout) l.track in
     store_next (track_bytes a.layout a.content.now) (λ (t : ℕ). block_offset a.layout t 0) a.layout.tracks a.image.now l.invariant c.loop-track-test.true (omega arith) c.put_track.ensures
-
-pub shape_of-image : goal.shape_of-image
-shape_of-image c = c.loop-track.invariant.same
 
 pub returns : goal.returns
 returns c =

@@ -5,6 +5,7 @@ use mathlib.Core.List.{List}
 use native.Mathlib.Omega.{arith}
 use lib.ListN.{length}
 use lib.Seq.{length-sets}
+use Rattle.refusals.specs.Refusals.{in_table}
 use Rattle.dsk_layout.specs.Layouts.{image_length}
 use Rattle.dsk_layout.proofs.LayoutLaws.{writable}
 use Rattle.dsk_write.specs.Images.{header_bytes}
@@ -16,7 +17,7 @@ returns-then-image-size c =
     let a = c.args in
     let short : length a.image.now < image_length a.layout = omega (arith, c.image_size-size.ensures, c.if-image-size.true) in
     record {
-      value = gives_15 a.creator.now a.layout a.content.now (length a.image.now) c.requires c.refuse.ensures short;
+      value = gives_15 a.creator.now a.layout a.content.now (length a.image.now) c.requires (ap in_table c.at.ensures) short;
       image_after = refl;
     }
 

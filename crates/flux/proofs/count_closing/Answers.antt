@@ -1,12 +1,17 @@
--- The pairs that are not zero are counted, and these are the words that are not zero.
-use mathlib.Core.Path.{◌≡◌, ap, ◌∙◌}
-use borrow.Author.Rules.{rules}
-use Rattle.std.specs.Prelude.{count_by, not, eqb}
-use Rattle.std.specs.Int.{w16, from_be_bytes}
-use Rattle.flux.proofs.Counting.{counted_pairs}
+-- A word counts just where it is not zero, and where no word is left, all are counted.
+use mathlib.Core.Bool.{not}
+use native.Mathlib.Omega.{arith}
+use lib.Dec.{eqb}
+use Rattle.flux.proofs.WordLaws.{at_most_one, word_read, no_more, closing_more, closing_end}
 use Rattle.flux.proofs.count_closing.Goals as goal
+
+pub loop-pair-preserved : goal.loop-pair-preserved
+loop-pair-preserved c =
+    let more = closing_more (word_read _ _ c.as_chunks.ensures.front c.loop-pair-test.true c.from_be_bytes.ensures) in
+    let one = at_most_one (not (eqb c.from_be_bytes.result 0)) in
+    record { few = omega arith; count = omega arith }
 
 pub returns : goal.returns
 returns c =
-    let counted : c.count.result ≡ count_by (λ p. not (eqb (from_be_bytes w16 p) 0)) c.as_chunks.result.0.now = search rules in
-    counted ∙ ap (count_by (λ p. not (eqb (from_be_bytes w16 p) 0))) c.as_chunks.ensures.front ∙ counted_pairs c.args.flux.now
+    let none = closing_end _ _ (no_more _ _ c.as_chunks.ensures.front c.loop-pair-test.false) in
+    omega arith

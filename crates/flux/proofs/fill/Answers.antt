@@ -1,17 +1,14 @@
 -- At a zero word what is still to be written stays; at any other its interval is written, and its number where that has a place; and where no word
 -- is left, all is written.
-use mathlib.Core.Path.{refl, sym, ◌∙◌}
+use mathlib.Core.Path.{sym, ◌∙◌}
 use native.Mathlib.Omega.{arith}
 use Rattle.flux.specs.Coding.{words_of}
 use Rattle.flux.proofs.WordLaws.{WordAt, word_read, no_more, intervals_zero, intervals_close, intervals_end, open_zero, open_close, open_end, number_zero, number_close, number_end}
 use Rattle.flux.proofs.Counting.{as_many}
-use Rattle.flux.proofs.Wrote.{start, retell, below, put, filled, whole_is}
-use Rattle.flux.proofs.Beside.{beside_start, beside_retell, beside_put, beside_past, beside_whole}
+use Rattle.flux.proofs.Wrote.{retell, below, put, filled, whole_is}
+use Rattle.flux.proofs.Beside.{beside_retell, beside_put, beside_past, beside_whole}
 use Rattle.flux.proofs.fill.Goals as goal
 use Rattle.flux.proofs.fill.Goals.{then-word-eq0, else-word-eq0, then-n-closings, else-n-closings}
-
-pub loop-i-init : goal.loop-i-init
-loop-i-init c = record { bound = omega arith; rest = refl; first = start _ _; second = beside_start _ _ }
 
 pub bounds-times-n : goal.bounds-times-n
 bounds-times-n c =

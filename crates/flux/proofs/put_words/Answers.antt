@@ -12,7 +12,7 @@ use Rattle.flux.specs.Coding.{bytes_of}
 use Rattle.flux.specs.Reading.{zero_ticks}
 use Rattle.flux.specs.Writing.{words_for}
 use Rattle.flux.proofs.TimeLaws.{bytes_next, bytes_end}
-use Rattle.flux.proofs.Wrote.{Wrote, start, retell, below_run, put_lent, whole_is}
+use Rattle.flux.proofs.Wrote.{Wrote, retell, below_run, put_lent, whole_is}
 use Rattle.flux.proofs.put_words.Goals as goal
 
 -- the two bytes of a word, the upper first
@@ -50,9 +50,6 @@ module _ (ts : List ℕ) {d₀ d : List ℕ} {n i : ℕ} (there : i < length ts)
       let l = mid_len n m d (omega arith) in
       let z = length-replicate {A = ℕ} (2 * (time / zero_ticks)) 0 in
       put_lent zeros room next (omega arith) (e ∙ ap (λ (k : ℕ). replicate k 0) (omega arith))
-
-pub loop-time-init : goal.loop-time-init
-loop-time-init c = start _ _
 
 pub overflow_add-end : goal.overflow_add-end
 overflow_add-end c = let b = fit c.args.times.now c.loop-time-test.true c.requires c.loop-time.invariant in omega arith

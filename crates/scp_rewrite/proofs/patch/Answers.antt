@@ -1,6 +1,7 @@
 -- The stores are those of the definition, one after another, and each moves the sum.
-use Rattle.std.proofs.Common.{ℕ, ◌+◌, ap, rules}
+use Rattle.std.proofs.Common.{ℕ, ◌+◌, ap, ◌∙◌, rules}
 use Rattle.scp_tracks.specs.declared.RevolutionData.{RevolutionData}
+use Rattle.octets.proofs.Numbers.{le32_put}
 use Rattle.scp_rewrite.proofs.Patching.{patch_left, patch_moved}
 use Rattle.scp_rewrite.proofs.patch.Goals as goal
 
@@ -14,8 +15,8 @@ returns c =
     let a = c.args in
     let here = ap (λ (i : ℕ). a.e + i) c.record_offset.ensures in
     let far = ap (λ (d : RevolutionData). d.offset.0) c.revolution_data-data.ensures.0 in
-    let time = c.four_bytes.ensures in
-    let count = c.four_bytes-2.ensures in
+    let time = c.to_le_bytes.ensures ∙ le32_put a.duration in
+    let count = c.to_le_bytes-2.ensures ∙ le32_put _ in
     let first = c.store-worded.ensures in
     let second = c.store-timed.ensures in
     let third = c.store.ensures in record {

@@ -6,11 +6,11 @@ use Rattle.scp.specs.Answers.{of_revolution}
 use Rattle.scp_rows.specs.Rows.{row_of}
 use Rattle.scp_rows.proofs.revolution_row.Goals as goal
 
-pub returns-in-Found : goal.returns-in-Found
-returns-in-Found c =
+pub returns-in-Ok : goal.returns-in-Ok
+returns-in-Ok c =
     c.values_row.ensures ∙ ap (copied_at (replicate 16 0) 2) c.revolution_numbers.ensures
-    ∙ ap row_of (ap of_revolution (sym c.in-Found.is) ∙ c.revolution-found.ensures)
+    ∙ ap row_of (ap of_revolution (sym c.in-Ok.is) ∙ c.revolution-found.ensures)
 
-pub returns-in-Refused : goal.returns-in-Refused
-returns-in-Refused c =
-    c.refused_row.ensures ∙ ap row_of (ap of_revolution (sym c.in-Refused.is) ∙ c.revolution-found.ensures)
+pub returns-in-Err : goal.returns-in-Err
+returns-in-Err c =
+    c.refused_row.ensures ∙ ap row_of (ap of_revolution (sym c.in-Err.is) ∙ c.revolution-found.ensures)

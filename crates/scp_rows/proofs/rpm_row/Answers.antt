@@ -6,8 +6,8 @@ use Rattle.scp_rows.proofs.rpm_row.Goals as goal
 
 pub float_to_bits-x : goal.float_to_bits-x
 float_to_bits-x c =
-    (subst Real (ap of_speed_only c.in-Rpm.is) c.requires).0
+    (subst Real (ap of_speed_only c.in-Some.is) c.requires).0
 
-pub returns-in-Rpm : goal.returns-in-Rpm
-returns-in-Rpm c =
-    c.values_row.ensures ∙ ap row_of (ap of_speed_only (sym c.in-Rpm.is))
+pub returns-in-Some : goal.returns-in-Some
+returns-in-Some c =
+    c.values_row.ensures ∙ ap row_of (ap of_speed_only (sym c.in-Some.is))

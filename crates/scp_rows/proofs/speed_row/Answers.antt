@@ -7,12 +7,12 @@ use Rattle.scp_rows.proofs.speed_row.Goals as goal
 
 pub rpm_row-requires : goal.rpm_row-requires
 rpm_row-requires c =
-    subst Real (sym (ap of_speed (sym c.in-Found.is) ∙ c.speed-found.ensures)) (speed_real _ _ _ _)
+    subst Real (sym (ap of_speed (sym c.in-Ok.is) ∙ c.speed-found.ensures)) (speed_real _ _ _ _)
 
-pub returns-in-Found : goal.returns-in-Found
-returns-in-Found c =
-    c.rpm_row.ensures ∙ ap row_of (ap of_speed (sym c.in-Found.is) ∙ c.speed-found.ensures)
+pub returns-in-Ok : goal.returns-in-Ok
+returns-in-Ok c =
+    c.rpm_row.ensures ∙ ap row_of (ap of_speed (sym c.in-Ok.is) ∙ c.speed-found.ensures)
 
-pub returns-in-Refused : goal.returns-in-Refused
-returns-in-Refused c =
-    c.refused_row.ensures ∙ ap row_of (ap of_speed (sym c.in-Refused.is) ∙ c.speed-found.ensures)
+pub returns-in-Err : goal.returns-in-Err
+returns-in-Err c =
+    c.refused_row.ensures ∙ ap row_of (ap of_speed (sym c.in-Err.is) ∙ c.speed-found.ensures)

@@ -6,11 +6,11 @@ use Rattle.scp.specs.Answers.{of_track}
 use Rattle.scp_rows.specs.Rows.{row_of}
 use Rattle.scp_rows.proofs.track_row.Goals as goal
 
-pub returns-in-Found : goal.returns-in-Found
-returns-in-Found c =
+pub returns-in-Ok : goal.returns-in-Ok
+returns-in-Ok c =
     c.values_row.ensures ∙ ap (copied_at (replicate 16 0) 2) c.track_numbers.ensures
-    ∙ ap row_of (ap of_track (sym c.in-Found.is) ∙ c.track-found.ensures)
+    ∙ ap row_of (ap of_track (sym c.in-Ok.is) ∙ c.track-found.ensures)
 
-pub returns-in-Refused : goal.returns-in-Refused
-returns-in-Refused c =
-    c.refused_row.ensures ∙ ap row_of (ap of_track (sym c.in-Refused.is) ∙ c.track-found.ensures)
+pub returns-in-Err : goal.returns-in-Err
+returns-in-Err c =
+    c.refused_row.ensures ∙ ap row_of (ap of_track (sym c.in-Err.is) ∙ c.track-found.ensures)

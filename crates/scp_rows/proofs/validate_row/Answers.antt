@@ -4,10 +4,10 @@ use Rattle.scp.specs.Answers.{of_validated}
 use Rattle.scp_rows.specs.Rows.{row_of}
 use Rattle.scp_rows.proofs.validate_row.Goals as goal
 
-pub returns-in-Valid : goal.returns-in-Valid
-returns-in-Valid c =
-    c.plain_row.ensures ∙ ap row_of (ap of_validated (sym c.in-Valid.is) ∙ c.validate-found.ensures)
+pub returns-in-Ok : goal.returns-in-Ok
+returns-in-Ok c =
+    c.plain_row.ensures ∙ ap row_of (ap of_validated (sym c.in-Ok.is) ∙ c.validate-found.ensures)
 
-pub returns-in-Refused : goal.returns-in-Refused
-returns-in-Refused c =
-    c.refused_row.ensures ∙ ap row_of (ap of_validated (sym c.in-Refused.is) ∙ c.validate-found.ensures)
+pub returns-in-Err : goal.returns-in-Err
+returns-in-Err c =
+    c.refused_row.ensures ∙ ap row_of (ap of_validated (sym c.in-Err.is) ∙ c.validate-found.ensures)

@@ -1,27 +1,34 @@
--- What refuses the question is handed on; past it the revolution is there, with the words that were found.
-use mathlib.Core.Path.{sym, ap, ◌∙◌}
-use Rattle.scp_tracks.specs.declared.RevolutionData.{RevolutionData}
-use Rattle.scp_open.proofs.Opens.{opens}
+-- What refuses the question is handed on; past it the revolution is there, and each return meets the tests before it.
+use mathlib.Core.Path.{ap, ◌∙◌}
+use Rattle.std.proofs.lemmas.Result.{err_from_is_err_and}
+use Rattle.refusals.specs.Refusals.{in_table}
 use Rattle.scp_lookup.proofs.FoundLaws.{found_data, found_refused}
-use Rattle.scp_sharing.proofs.Asked.{headers_inside, fault_there, fault_refused}
+use Rattle.scp_sharing.proofs.Asked.{fault_refused, words_refuse, shared_refuse, none_refuse}
 use Rattle.scp_sharing.proofs.rewrite_fault.Goals as goal
 
-pub words_fault-requires : goal.words_fault-requires
-words_fault-requires c =
-    let found = found_data _ _ _ _ (sym c.in-Found.is ∙ c.find_revolution.ensures) in
-    let h = headers_inside (opens _ _ found.present.track.opened) in
-    let track = found.present.track in (
-      record { below = found.present.below; headers = h },
-      h _ track.slot track.entry,
-      ap (λ (d : RevolutionData). d.words) found.same,
-    )
+pub returns-in_err-data : goal.returns-in_err-data
+returns-in_err-data c =
+    let p = err_from_is_err_and c.from_residual.result c.from_residual.ensures.1 in
+    let refused = found_refused _ _ _ _ c.in_err-data.ensures in
+    rw (p.1, p.2) (fault_refused _ _ _ _ _ refused.refuses refused.number)
 
-pub returns-in-Found : goal.returns-in-Found
-returns-in-Found c =
-    let found = found_data _ _ _ _ (sym c.in-Found.is ∙ c.find_revolution.ensures) in
-    c.words_fault.ensures ∙ fault_there _ _ _ _ _ found.present
+pub returns-then-bad_words : goal.returns-then-bad_words
+returns-then-bad_words c =
+    let found = found_data _ _ _ _ c.in_ok-data.ensures in
+    ap in_table c.at.ensures ∙ words_refuse _ _ _ _ _ found c.bad_words.ensures c.if-bad_words.true
 
-pub returns-in-Refused : goal.returns-in-Refused
-returns-in-Refused c =
-    let refused = found_refused _ _ _ _ (sym c.in-Refused.is ∙ c.find_revolution.ensures) in
-    fault_refused _ _ _ _ _ refused.refuses refused.number
+pub invariant_of-search-clause-below : goal.invariant_of-search-clause-below
+invariant_of-search-clause-below c = (found_data _ _ _ _ c.in_ok-data.ensures).present.below
+
+pub returns-then-is_shared : goal.returns-then-is_shared
+returns-then-is_shared c =
+    let found = found_data _ _ _ _ c.in_ok-data.ensures in
+    ap in_table c.at-then-is_shared.ensures
+    ∙ shared_refuse _ _ _ _ _ found c.bad_words.ensures c.if-bad_words.false c.track_entry.ensures c.stand_of-stand.ensures c.is_shared.ensures
+    c.if-is_shared.true
+
+pub returns : goal.returns
+returns c =
+    let found = found_data _ _ _ _ c.in_ok-data.ensures in
+    none_refuse _ _ _ _ _ found c.bad_words.ensures c.if-bad_words.false c.track_entry.ensures c.stand_of-stand.ensures c.is_shared.ensures
+    c.if-is_shared.false

@@ -11,7 +11,7 @@ returns-then-kind-eq-REWRITE c =
     let a = c.args in
     let b = a.image.now in
     let call = call_rewrite a.calls.now a.words.now a.i c.if-kind-eq-REWRITE.true in
-    let same = rewrite_same _ c.edition_of-edition.ensures c.cap-track.ensures c.cap-revolution.ensures c.part_of-part.ensures.result_value in record {
+    let same = rewrite_same _ c.from-edition.ensures c.cap-track.ensures c.cap-revolution.ensures c.part_of-part.ensures.result_value in record {
       value = c.rewrite_row.ensures.value ∙ ap (λ (q : Call). row_of (answer b q)) (same ∙ sym call);
       image_after = c.rewrite_row.ensures.image_after ∙ ap (after b) (same ∙ sym call);
     }
@@ -22,7 +22,7 @@ returns c =
     let a = c.args in
     let b = a.image.now in
     let call = call_question a.calls.now a.words.now a.i c.if-kind-eq-REWRITE.false in
-    let same = question_same _ c.edition_of-edition.ensures c.cap-track.ensures c.cap-revolution.ensures in record {
+    let same = question_same _ c.from-edition.ensures c.cap-track.ensures c.cap-revolution.ensures in record {
       value = c.question_row.ensures ∙ ap (λ (q : Call). row_of (answer b q)) (same ∙ sym call);
       image_after = sym (ap (after b) call);
     }

@@ -1,34 +1,31 @@
 -- The first byte picks the row, and the other bytes are tested by it.
-use mathlib.Core.Path.{sym}
-use mathlib.Core.Logic.{inl, inr}
-use mathlib.Core.Bool.{true, false}
-use native.Mathlib.Omega.{arith}
+use Rattle.std.proofs.Common.{true, false, sym, inl, inr, arith}
 use Rattle.utf8.proofs.Rows.{size_ascii, size_none, two_bytes, three_bytes, four_bytes}
 use Rattle.utf8.proofs.size_of.Goals as goal
 
-pub returns-then-a-lt128 : goal.returns-then-a-lt128
-returns-then-a-lt128 c = sym (size_ascii _ _ c.if-a-lt128.true)
+pub returns-in-0-to-127 : goal.returns-in-0-to-127
+returns-in-0-to-127 c = (omega arith, sym (size_ascii _ _ (omega arith)))
 
-pub returns-then-a-lt194 : goal.returns-then-a-lt194
-returns-then-a-lt194 c = sym (size_none _ _ (inl c.if-a-lt194.true) (omega arith))
+pub returns-in-194-to-223 : goal.returns-in-194-to-223
+returns-in-194-to-223 c = (omega arith, sym (two_bytes _ _ 0 0 _ {x = true} (omega arith) (omega arith) (cc)))
 
-pub returns-then-trails : goal.returns-then-trails
-returns-then-trails c = sym (two_bytes _ _ 0 0 _ {x = true} (omega arith) (omega arith) (cc))
+pub returns-in-224-to-239 : goal.returns-in-224-to-239
+returns-in-224-to-239 c = (omega arith, sym (three_bytes _ _ _ 0 _ {x = true} (omega arith) (omega arith) (cc)))
 
-pub returns-then-a-lt224 : goal.returns-then-a-lt224
-returns-then-a-lt224 c = sym (two_bytes _ _ 0 0 _ {x = false} (omega arith) (omega arith) (cc))
+pub returns-in-240-to-244 : goal.returns-in-240-to-244
+returns-in-240-to-244 c = (omega arith, sym (four_bytes _ _ _ _ _ {x = true} (omega arith) (omega arith) (cc)))
 
-pub returns-then-follows-trails : goal.returns-then-follows-trails
-returns-then-follows-trails c = sym (three_bytes _ _ _ 0 _ {x = true} (omega arith) (omega arith) (cc))
+pub returns-in_default : goal.returns-in_default
+returns-in_default c = size_none _ _ (inl (omega arith)) (omega arith)
 
-pub returns-then-a-lt240 : goal.returns-then-a-lt240
-returns-then-a-lt240 c = sym (three_bytes _ _ _ 0 _ {x = false} (omega arith) (omega arith) (cc))
+pub returns-in_default-2 : goal.returns-in_default-2
+returns-in_default-2 c = two_bytes _ _ 0 0 _ {x = false} (omega arith) (omega arith) (cc)
 
-pub returns-then-a-gt244 : goal.returns-then-a-gt244
-returns-then-a-gt244 c = sym (size_none _ _ (inr c.if-a-gt244.true) (omega arith))
+pub returns-in_default-3 : goal.returns-in_default-3
+returns-in_default-3 c = three_bytes _ _ _ 0 _ {x = false} (omega arith) (omega arith) (cc)
 
-pub returns-then-follows-trails-2 : goal.returns-then-follows-trails-2
-returns-then-follows-trails-2 c = sym (four_bytes _ _ _ _ _ {x = true} (omega arith) (omega arith) (cc))
+pub returns-in_default-4 : goal.returns-in_default-4
+returns-in_default-4 c = four_bytes _ _ _ _ _ {x = false} (omega arith) (omega arith) (cc)
 
-pub returns : goal.returns
-returns c = sym (four_bytes _ _ _ _ _ {x = false} (omega arith) (omega arith) (cc))
+pub returns-in_default-5 : goal.returns-in_default-5
+returns-in_default-5 c = size_none _ _ (inr (omega arith)) (omega arith)

@@ -1,33 +1,31 @@
--- The loop's invariant: whole sequences stand before i.
-use mathlib.Core.Path.{sym, ◌∙◌}
-use native.Mathlib.Omega.{arith}
-use Rattle.utf8.proofs.Places.{pass_none, pass_then, pass_ascii, pass_found, stops, ends}
+-- The loop's invariant: whole sequences stand before the place.
+use Rattle.std.proofs.Common.{◌≡◌, ◌+◌, ◌<◌, slice_index, sym, ◌∙◌, arith}
+use Rattle.std.proofs.lemmas.List.{take_rest}
+use borrow.Author.Tests.{ltb-true}
+use Rattle.utf8.specs.Reading.{Passed}
+use Rattle.utf8.proofs.Places.{pass_then, pass_ascii, pass_found, pass_rest, stops, ends}
 use Rattle.utf8.proofs.valid_up_to.Goals as goal
 
-pub loop-i-init : goal.loop-i-init
-loop-i-init c = pass_none (omega arith)
+pub loop-at-preserved-then-is_ascii : goal.loop-at-preserved-then-is_ascii
+loop-at-preserved-then-is_ascii c =
+    let t = c.args.text.now in
+    let i = c.loop-at.at in
+    let k = c.ascii_len.result in
+    let e : i + 1 + k ≡ i + (1 + k) = omega arith in
+    let first : slice_index t i < 0x80 = ltb-true _ _ (sym c.is_ascii.ensures ∙ c.if-is_ascii.true) in
+    let rest : Passed t (i + 1) (i + 1 + k) = pass_rest t (i + 1) k (omega arith) (rw (take_rest t (i + 1)) at c.ascii_len.ensures) in
+    rw (sym e) (pass_then c.loop-at.invariant (pass_then (pass_ascii t i (omega arith) first) rest))
 
-pub loop-i-smaller-then-text-i-lt128 : goal.loop-i-smaller-then-text-i-lt128
-loop-i-smaller-then-text-i-lt128 c = omega (arith, c.skip_ascii-i.ensures.onward)
+pub overflow_add-at-in-Some : goal.overflow_add-at-in-Some
+overflow_add-at-in-Some c =
+    omega (arith, (pass_found c.args.text.now c.loop-at.at _ (omega arith) c.in-Some.ensures.1 (λ e. omega arith)).within)
 
-pub loop-i-preserved-then-text-i-lt128 : goal.loop-i-preserved-then-text-i-lt128
-loop-i-preserved-then-text-i-lt128 c =
-    pass_then c.loop-i.invariant (pass_then (pass_ascii _ _ (omega arith) c.if-text-i-lt128.true) c.skip_ascii-i.ensures)
+pub loop-at-preserved : goal.loop-at-preserved
+loop-at-preserved c =
+    pass_then c.loop-at.invariant (pass_found _ _ _ (omega arith) c.in-Some.ensures.1 (λ e. omega arith))
 
-pub returns-then-k-eq0 : goal.returns-then-k-eq0
-returns-then-k-eq0 c =
-    stops _ _ c.loop-i.invariant (sym c.size_at-k.ensures ∙ c.if-k-eq0.true)
-
-pub overflow_add-i-else-text-i-lt128 : goal.overflow_add-i-else-text-i-lt128
-overflow_add-i-else-text-i-lt128 c =
-    omega (arith, (pass_found _ c.loop-i.i _ (omega arith) c.size_at-k.ensures c.if-k-eq0.false).within)
-
-pub loop-i-smaller : goal.loop-i-smaller
-loop-i-smaller c = omega arith
-
-pub loop-i-preserved : goal.loop-i-preserved
-loop-i-preserved c =
-    pass_then c.loop-i.invariant (pass_found _ _ _ (omega arith) c.size_at-k.ensures c.if-k-eq0.false)
+pub returns-in-None : goal.returns-in-None
+returns-in-None c = stops _ _ c.loop-at.invariant c.in-None.ensures
 
 pub returns : goal.returns
-returns c = ends _ _ c.loop-i.invariant (omega arith)
+returns c = ends _ _ c.loop-at.invariant (omega arith)

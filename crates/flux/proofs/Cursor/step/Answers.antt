@@ -1,13 +1,8 @@
 -- A step answers what the definition gives: at a word that is not zero, at a zero, and where no word is left.
-use mathlib.Core.Path.{refl, sym, ◌∙◌}
+use mathlib.Core.Path.{sym, ◌∙◌}
 use native.Mathlib.Omega.{arith}
-use Rattle.flux.proofs.WordLaws.{good_size, word_read, no_more, step_zero, step_close, step_end}
+use Rattle.flux.proofs.WordLaws.{word_read, no_more, step_zero, step_close, step_end}
 use Rattle.flux.proofs.Cursor.step.Goals as goal
-
-pub loop-i-init : goal.loop-i-init
-loop-i-init c =
-    let good = good_size _ (sym c.bad_flux_size.ensures ∙ c.if-bad_flux_size.false) in
-    (good.limit, omega arith, refl)
 
 pub returns-then-word-ne0 : goal.returns-then-word-ne0
 returns-then-word-ne0 c =
