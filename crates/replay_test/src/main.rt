@@ -83,7 +83,10 @@ fn run(
     let calls = read_calls(rt);
     let mut words = [0; 34];
     reading::read_full(&mut rt.reader(), &mut words);
-    print_replayed(rt, sequence::replay(&mut image, &calls, &words, &mut answers));
+    print_replayed(
+        rt,
+        sequence::replay(&mut image, &calls, &words, &mut answers),
+    );
     print_rows(rt, &answers);
     print_image(rt, &image);
     Ok(())

@@ -78,13 +78,7 @@ fn print_image(rt: &impl Print, image: &[u8]) {
 }
 
 // Rewrites the image, and shows it beside what it was: a refused rewrite changes no byte.
-fn rewrite(
-    rt: &impl Print,
-    image: &mut [u8],
-    edition: Edition,
-    before: &[u8],
-    attempt: Attempt,
-) {
+fn rewrite(rt: &impl Print, image: &mut [u8], edition: Edition, before: &[u8], attempt: Attempt) {
     let (track, turn, ticks, words) = attempt;
     let name = name_of(edition);
     let bytes = words.len();

@@ -43,7 +43,9 @@ fn print_header(rt: &impl Print, header: Header) {
         heads,
         checksum,
     } = header;
-    let _ = println!(rt; "header {version} {disk} {revolutions} {start} {end} {flags} {width} {heads} {checksum}");
+    let _ = println!(rt;
+        "header {version} {disk} {revolutions} {start} {end} {flags} {width} {heads} {checksum}"
+    );
 }
 
 // A signed number: its sign, and the bits of its two's complement.
@@ -76,23 +78,27 @@ fn print_footer_data(rt: &impl Print, footer: FooterData) {
 
 fn print_track_data(rt: &impl Print, track: Result<TrackData, Refusal>) {
     let _ = match track {
-        Ok(TrackData {
-            cylinder,
-            head,
-            offset,
-            revolutions,
-        }) => print!(rt; " {cylinder} {head} {} {revolutions}", offset.0),
+        Ok(
+            TrackData {
+                cylinder,
+                head,
+                offset,
+                revolutions,
+            },
+        ) => print!(rt; " {cylinder} {head} {} {revolutions}", offset.0),
         Err(refusal) => print!(rt; " {refusal}"),
     };
 }
 
 fn print_revolution_data(rt: &impl Print, revolution: Result<RevolutionData, Refusal>) {
     let _ = match revolution {
-        Ok(RevolutionData {
-            duration,
-            words,
-            offset,
-        }) => print!(rt; " {duration} {words} {}", offset.0),
+        Ok(
+            RevolutionData {
+                duration,
+                words,
+                offset,
+            },
+        ) => print!(rt; " {duration} {words} {}", offset.0),
         Err(refusal) => print!(rt; " {refusal}"),
     };
 }
@@ -128,8 +134,7 @@ impl Asked<'_> {
     }
 
     fn print_intervals(self, rt: &impl Print, track: u32, turn: u32) {
-        let answer =
-            scp::revolution_intervals(self.image, self.edition, track, turn, &mut [0; 2]);
+        let answer = scp::revolution_intervals(self.image, self.edition, track, turn, &mut [0; 2]);
         let _ = print!(rt; " intervals");
         print_filled(rt, answer);
     }
