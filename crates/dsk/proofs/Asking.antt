@@ -5,8 +5,7 @@ use mathlib.Core.List.{List}
 use mathlib.Core.Bool.{true, false, ◌||◌}
 use lib.Dec.{leb}
 use borrow.Author.Tests.{lt-leb, leb-false}
-use Rattle.refusals.specs.Refusals.{Fault}
-use Rattle.refusals.specs.Refusals.{none, refusal, refuse_if}
+use Rattle.refusals.specs.Refusals.{Fault, none, refusal, refuse_if}
 use Rattle.refusals.proofs.Chain.{first_here, first_next}
 use Rattle.refusals.proofs.Finding.{neither, both_clear, not_refused, alike_end, alike_refuse, alike_first}
 use Rattle.dsk_fields.specs.Fields.{tracks, sides}

@@ -1,7 +1,6 @@
 -- What each call on a DSK image answers (DK-12 to DK-15): what is found, or what refuses it.
 use Rattle.std.specs.Prelude.{ℕ, List, [], take, drop, Result, Ok, Err}
-use Rattle.refusals.specs.Refusals.{Fault}
-use Rattle.refusals.specs.Refusals.{unless}
+use Rattle.refusals.specs.Refusals.{Fault, unless}
 use Rattle.dsk_fields.specs.Fields.{tracks, sides, track_size, block_of, size_code, sectors, gap_length, filler_byte, entry_track, entry_side, entry_id, entry_code, entry_status1, entry_status2, data_size, data_at}
 use Rattle.dsk_check.specs.Faults.{dsk_fault}
 use Rattle.dsk.specs.Questions.{block_question, sector_question}

@@ -1,7 +1,6 @@
 -- What refuses a call on a track block or a sector, in its order: 30 to 35, then 13, then 14 (DK-11).
 use Rattle.std.specs.Prelude.{ℕ, List, ◌||◌, leb}
-use Rattle.refusals.specs.Refusals.{Fault}
-use Rattle.refusals.specs.Refusals.{none, refusal, refuse_if, first_of}
+use Rattle.refusals.specs.Refusals.{Fault, none, refusal, refuse_if, first_of}
 use Rattle.dsk_fields.specs.Fields.{tracks, sides, block_of, sectors}
 use Rattle.dsk_check.specs.Faults.{dsk_fault}
 

@@ -2,21 +2,20 @@
 -- place of the length; where `out` has a place it is lent all.
 use Prim.Native.Nat.{ℕ, ◌≤◌}
 use mathlib.Core.Path.{◌≡◌, refl, sym, ap, ◌∙◌}
-use mathlib.Core.List.{List, [], ◌++◌, append-nil}
+use mathlib.Core.List.{List}
 use mathlib.Core.Bool.{Bool, true, false, cond}
 use native.Mathlib.Omega.{arith}
-use lib.ListN.{length, take, drop}
-use lib.Seq.{take-length, drop-length, length-take-le}
+use lib.ListN.{length, take}
+use lib.Seq.{length-take-le}
 use lib.Dec.{ltb}
 use borrow.Author.Tests.{lt-ltb}
 use Rattle.std.specs.Prelude.{Result, Ok, Err}
-use Rattle.refusals.specs.Refusals.{Fault}
-use Rattle.refusals.specs.Refusals.{none, refusal, refuse_if, unless}
+use Rattle.refusals.specs.Refusals.{Fault, none, refusal, refuse_if, unless}
 use Rattle.boundary.specs.Boundary.{within}
 use Rattle.dsk_layout.specs.declared.Layout.{Layout}
 use Rattle.dsk_layout.specs.Layouts.{bad_layout}
 use Rattle.dsk_write.specs.Images.{header_bytes, image_bytes}
-use Rattle.dsk_write.specs.Writing.{write_fault, write_answer, buffer_after}
+use Rattle.dsk_write.specs.Writing.{write_fault, write_answer}
 use Rattle.dsk_c.specs.Values.{of_written, with_length, write_to}
 
 -- ---- a short `out`
@@ -66,33 +65,10 @@ module _ (c : List ℕ) (l : Layout) (d : List ℕ) where
   answer_by true places n e = none_lent places n e
   answer_by false places n e = all_lent places (write_answer c l d n) e
 
-  -- nothing is left where nothing was lent
-  empty_by : (bad : Bool) (old image : List ℕ) → buffer_after [] image (answer bad true) ++ old ≡ buffer_after old image (answer bad true)
-  unfolding answer refuse_if
-  empty_by true old image = refl
-  empty_by false old image = refl
-
-  after_by : (y : Bool) (places : ℕ) (old : List ℕ) → ltb places 1 ≡ y
-      → buffer_after (take (cond y 0 (length old)) old) (image_bytes c l d) (write_answer c l d (cond y 0 (length old))) ++ drop (cond y 0 (length old)) old
-      ≡ buffer_after old (image_bytes c l d) (with_length places (write_answer c l d (length old)))
-  after_by true places old e =
-      let bad = bad_layout l (length c) (length d) in
-      let is : write_answer c l d 0 ≡ answer bad true = answer_is 0 ∙ ap (answer bad) some in
-      ap (λ (w : Result ℕ Fault). buffer_after [] (image_bytes c l d) w ++ old) is ∙ empty_by bad old (image_bytes c l d)
-      ∙ ap (buffer_after old (image_bytes c l d)) (sym is ∙ none_lent places (length old) e)
-  after_by false places old e =
-      rw (take-length old, drop-length old, append-nil) (ap (buffer_after old (image_bytes c l d)) (all_lent places (write_answer c l d (length old)) e))
-
-  -- what writing into the first p places answers, and what it leaves there, said of the whole image
+  -- what writing into the first p places answers, said of the whole image
   module _ (old : List ℕ) (places p : ℕ) (e : p ≡ cond (ltb places 1) 0 (length old)) (h : p ≤ length old) where
     pub lent_given : {w : Result ℕ Fault} → w ≡ write_answer c l d (length (take p old)) → within places (of_written w) ≡ of_written (write_to c l d (length old) places)
     lent_given said =
         ap (λ (w : Result ℕ Fault). within places (of_written w))
         (said ∙ ap (write_answer c l d) (length-take-le p old h ∙ e) ∙ answer_by (ltb places 1) places (length old) refl)
         ∙ given places (write_answer c l d (length old))
-
-    pub lent_after : {w : Result ℕ Fault} {part : List ℕ} → w ≡ write_answer c l d (length (take p old)) → part ≡ buffer_after (take p old) (image_bytes c l d) w
-        → part ++ drop p old ≡ buffer_after old (image_bytes c l d) (write_to c l d (length old) places)
-    lent_after said left =
-        ap (λ (x : List ℕ). x ++ drop p old) (left ∙ ap (buffer_after (take p old) (image_bytes c l d)) (said ∙ ap (write_answer c l d) (length-take-le p old h)))
-        ∙ ap (λ (q : ℕ). buffer_after (take q old) (image_bytes c l d) (write_answer c l d q) ++ drop q old) e ∙ after_by (ltb places 1) places old refl

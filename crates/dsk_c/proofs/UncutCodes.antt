@@ -4,8 +4,7 @@ use Prim.Native.Nat.{ℕ, ◌<◌}
 use mathlib.Core.List.{List}
 use native.Mathlib.Omega.{arith}
 use Rattle.octets.specs.Numbers.{Octets}
-use Rattle.refusals.specs.Refusals.{Fault}
-use Rattle.refusals.specs.Refusals.{none}
+use Rattle.refusals.specs.Refusals.{Fault, none}
 use Rattle.boundary.proofs.ExactCodes.{exact}
 use Rattle.boundary.proofs.SmallCodes.{Small, small_none, small_first, small_at, small_if, small_from}
 use Rattle.dsk_fields.specs.Fields.{tracks, sides, block_index}

@@ -1,7 +1,6 @@
 -- The values of what a DSK image answers, as they pass to C (include/dsk.h).
 use Rattle.std.specs.Prelude.{ℕ, List, [], ◌∷◌, cond, ltb, Result, Ok, Err}
-use Rattle.refusals.specs.Refusals.{Fault}
-use Rattle.refusals.specs.Refusals.{refusal}
+use Rattle.refusals.specs.Refusals.{Fault, refusal}
 use Rattle.boundary.specs.Boundary.{Given, refuses, gives}
 use Rattle.dsk.specs.declared.DiskGeometry.{DiskGeometry}
 use Rattle.dsk.specs.declared.TrackBlock.{TrackBlock}

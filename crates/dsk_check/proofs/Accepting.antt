@@ -7,8 +7,7 @@ use native.Mathlib.Omega.{arith}
 use lib.ListN.{length, drop}
 use lib.Dec.{eqb, ltb}
 use borrow.Author.Tests.{ltb-false, le-ltb, eqb-true, eq-eqb, not-false}
-use Rattle.refusals.specs.Refusals.{Fault}
-use Rattle.refusals.specs.Refusals.{none}
+use Rattle.refusals.specs.Refusals.{Fault, none}
 use Rattle.refusals.proofs.Finding.{neither, from_none, none_from, not_refused, pass, both_clear, clear_both, from_clear, clear_from, Clear, clear_first, clear_from_all}
 use Rattle.dsk_fields.specs.Fields.{block_text, says_at, info_size, tracks, sides, track_size, block_index, block_of, track_number, size_code, sectors, data_size}
 use Rattle.dsk_header.specs.HeaderFault.{head_fault}

@@ -1,7 +1,6 @@
 -- What refuses a DSK image: 30 to 35 in their order (DK-10, R-30 to R-35).
 use Rattle.std.specs.Prelude.{ℕ, ◌+◌, ◌*◌, List, Bool, not, ◌&&◌, ◌||◌, eqb, ltb}
-use Rattle.refusals.specs.Refusals.{Fault}
-use Rattle.refusals.specs.Refusals.{none, refusal, refuse_if, first_of}
+use Rattle.refusals.specs.Refusals.{Fault, none, refusal, refuse_if, first_of}
 use Rattle.refusals.specs.Search.{any_from, first_from}
 use Rattle.dsk_header.specs.HeaderFault.{head_fault}
 use Rattle.dsk_fields.specs.Fields.{block_text, says_at, info_size, tracks, sides, track_size, block_index, block_of, track_number, side_number, size_code, sectors, entry_code, data_size}

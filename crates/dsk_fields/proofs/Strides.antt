@@ -51,34 +51,6 @@ module _ (S size : ℕ) where
 pub block_ends : (b : List ℕ) {t s : ℕ} → image_size b ≤ length b → t < tracks b → s < sides b → block_of b t s + track_size b ≤ length b
 block_ends b whole h k = let m = part_ends (sides b) (track_size b) (tracks b) h k in omega arith
 
-pub next_side : (b : List ℕ) (t s : ℕ) → block_of b t s + track_size b ≡ block_of b t (s + 1)
-next_side b = side_after (sides b) (track_size b)
-
-pub first_track : (b : List ℕ) → info_size ≡ block_of b 0 0
-first_track b = first_part (sides b) (track_size b)
-
-pub next_track : (b : List ℕ) (t : ℕ) → block_of b t 0 + sides b * track_size b ≡ block_of b (t + 1) 0
-next_track b = track_after (sides b) (track_size b)
-
-pub track_ends : (b : List ℕ) {t : ℕ} → image_size b ≤ length b → t < tracks b → block_of b (t + 1) 0 ≤ length b
-track_ends b {t} whole h =
-    let m = mul-le-mul_right {m = t + 1} {n = tracks b} (sides b) (omega arith) in
-    let z : (t + 1) * sides b + 0 ≤ tracks b * sides b = omega arith in
-    let n = mul-le-mul_right {m = (t + 1) * sides b + 0} {n = tracks b * sides b} (track_size b) z in
-    omega arith
-
--- the offset of a block as it is reckoned from the fields that were read
-pub at_block : (b : List ℕ) {S size : ℕ} (t s : ℕ) → S ≡ sides b → size ≡ track_size b → info_size + (t * S + s) * size ≡ block_of b t s
-at_block b t s e f = rw (e, f)
-
 -- two bytes
 pub bytes_product : {a b : ℕ} → a < 256 → b < 256 → a * b ≤ 65_025
 bytes_product {a} {b} h k = mul-le-mul {n₁ = a} {m₁ = b} {n₂ = 255} {m₂ = 255} (omega arith) (omega arith)
-
--- a number of blocks, and a size
-pub sizes_product : {a b : ℕ} → a < 65_536 → b < 65_536 → a * b ≤ 4_294_836_225
-sizes_product {a} {b} h k = mul-le-mul {n₁ = a} {m₁ = b} {n₂ = 65_535} {m₂ = 65_535} (omega arith) (omega arith)
-
--- a number of sectors, and the size of one
-pub sectors_product : {a b : ℕ} → a < 256 → b ≤ 6_144 → a * b ≤ 1_566_720
-sectors_product {a} {b} h k = mul-le-mul {n₁ = a} {m₁ = b} {n₂ = 255} {m₂ = 6_144} (omega arith) k

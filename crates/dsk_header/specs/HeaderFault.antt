@@ -1,7 +1,6 @@
 -- What refuses a DSK image before its track blocks are looked at: 30, 32, 31, 32 in this order (DK-10, R-30 to R-32).
 use Rattle.std.specs.Prelude.{ℕ, List, Bool, not, ◌||◌, length, eqb, ltb}
-use Rattle.refusals.specs.Refusals.{Fault}
-use Rattle.refusals.specs.Refusals.{none, refusal, refuse_if}
+use Rattle.refusals.specs.Refusals.{Fault, none, refusal, refuse_if}
 use Rattle.dsk_fields.specs.Fields.{sign_text, says_at, info_size, tracks, sides, track_size, image_size}
 
 -- R-30 Sign: the image does not open with "MV - CPC"; so with fewer than 8 bytes.

@@ -1,24 +1,15 @@
 -- What 41 refuses: each test of it fails exactly if its rule holds, and what it answers in each case.
-use Prim.Native.Nat.{ℕ, ◌*◌, ◌≤◌}
-use mathlib.Core.Path.{◌≡◌, refl, sym, ◌∙◌}
+use Prim.Native.Nat.{ℕ, ◌≤◌}
+use mathlib.Core.Path.{◌≡◌, refl}
 use mathlib.Core.Logic.{◌⊎◌, inl, inr, ⊎_map}
 use mathlib.Core.Bool.{Bool, true, false, not, ◌||◌, cond}
-use native.Mathlib.Nat.{mul-le-mul}
-use native.Mathlib.Omega.{arith}
 use lib.Dec.{eqb, ltb}
 use borrow.Author.Tests.{ltb-false, le-ltb, eqb-true, eq-eqb, not-false}
 use Rattle.std.specs.Prelude.{Ok, Err}
-use Rattle.refusals.specs.Refusals.{Fault}
-use Rattle.refusals.specs.Refusals.{refusal}
+use Rattle.refusals.specs.Refusals.{Fault, refusal}
 use Rattle.refusals.proofs.Finding.{either, neither}
 use Rattle.dsk_layout.specs.declared.Layout.{Layout}
-use Rattle.dsk_layout.specs.Layouts.{layout_of, track_length, all_data, bad_numbers, bad_layout, refused_layout, layout_answer, Writable, RefusesExactly}
-
--- ---- products that nothing wraps in
-
--- a number of blocks, and the bytes of one
-pub blocks_product : {a b : ℕ} → a ≤ 65_535 → b ≤ 1_566_976 → a * b ≤ 102_691_772_160
-blocks_product {a} {b} h k = mul-le-mul {n₁ = a} {m₁ = b} {n₂ = 65_535} {m₂ = 1_566_976} h k
+use Rattle.dsk_layout.specs.Layouts.{track_length, all_data, bad_numbers, bad_layout, refused_layout, layout_answer, Writable, RefusesExactly}
 
 -- ---- the numbers
 
@@ -49,31 +40,6 @@ module _ (l : Layout) where
         gap_most = ltb-false 255 _ gap.0;
         filler_most = ltb-false 255 _ gap.1;
       }
-
-  pub sides_most : Numbers l → l.sides ≤ 2
-  sides_most h = elim h.one_or_two [ inl e ↦ omega arith | inr e ↦ omega arith ]
-
--- so each of them is a byte
-pub record Bytes (t s n c g f : ℕ) : Type 0 where
-  pub tracks : t ≤ 255
-  pub sides : s ≤ 255
-  pub sectors : n ≤ 255
-  pub code : c ≤ 255
-  pub gap : g ≤ 255
-  pub filler : f ≤ 255
-
-pub bytes : (t s n c g f : ℕ) {r : Bool} → r ≡ bad_numbers (layout_of t s n c g f) → r ≡ false → Bytes t s n c g f
-bytes t s n c g f e q =
-    let h = numbers (layout_of t s n c g f) (sym e ∙ q) in
-    let m = sides_most (layout_of t s n c g f) h in
-    record {
-      tracks = h.tracks_most;
-      sides = omega arith;
-      sectors = omega (arith, h.sectors_most);
-      code = omega (arith, h.code_most);
-      gap = h.gap_most;
-      filler = h.filler_most;
-    }
 
 -- ---- 41 exactly
 
@@ -117,16 +83,6 @@ module _ (l : Layout) (m n : ℕ) where
         le-ltb 65_535 (track_length l) w.track_most,
         eq-eqb n (all_data l) w.content,
       )
-
-  -- ---- what is answered
-
-  pub refused_by : bad_layout l m n ≡ true → refused_layout ≡ layout_answer l m n
-  unfolding layout_answer
-  refused_by t = sym (simp t)
-
-  pub accepted_by : bad_layout l m n ≡ false → Ok l ≡ layout_answer l m n
-  unfolding layout_answer
-  accepted_by t = sym (simp t)
 
 -- ---- what an answer says
 

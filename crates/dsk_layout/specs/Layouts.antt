@@ -1,7 +1,6 @@
 -- What a DSK image that is to be written has, how large it is, and what is not written (DK-17 to DK-19, R-41).
 use Rattle.std.specs.Prelude.{ℕ, ◌+◌, ◌*◌, ◌≤◌, ◌≡◌, ◌↔◌, ◌⊎◌, Bool, false, not, ◌||◌, cond, eqb, ltb, Result, Ok, Err}
-use Rattle.refusals.specs.Refusals.{Fault}
-use Rattle.refusals.specs.Refusals.{refusal}
+use Rattle.refusals.specs.Refusals.{Fault, refusal}
 use Rattle.dsk_fields.specs.Fields.{info_size, sector_size}
 use Rattle.dsk_layout.specs.declared.Layout.{Layout}
 use Rattle.dsk_layout.specs.declared.LayoutNumbers.{LayoutNumbers}

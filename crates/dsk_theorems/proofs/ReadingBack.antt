@@ -11,8 +11,7 @@ use lib.Seq.{take_all}
 use lib.Dec.{ltb}
 use borrow.Author.Tests.{ltb-false}
 use Rattle.std.specs.Prelude.{Result, Ok, Err}
-use Rattle.refusals.specs.Refusals.{Fault}
-use Rattle.refusals.specs.Refusals.{none, refusal, refuse_if, unless}
+use Rattle.refusals.specs.Refusals.{Fault, none, refusal, refuse_if, unless}
 use Rattle.refusals.proofs.Answers.{unless_found}
 use Rattle.dsk_fields.specs.Fields.{info_size, tracks, sides, track_size, block_of, size_code, sectors, data_size, data_at, sector_size}
 use Rattle.dsk_check.specs.Faults.{dsk_fault}

@@ -8,8 +8,7 @@ use lib.ListN.{length, drop}
 use lib.Seq.{sets}
 use borrow.Author.Tests.{lt-ltb, le-ltb}
 use Rattle.std.specs.Prelude.{Ok, Err}
-use Rattle.refusals.specs.Refusals.{Fault}
-use Rattle.refusals.specs.Refusals.{none, refusal}
+use Rattle.refusals.specs.Refusals.{Fault, none, refusal}
 use Rattle.refusals.proofs.Chain.{refuse_here, refuse_next}
 use Rattle.refusals.proofs.Finding.{is_refusal}
 use Rattle.refusals.proofs.Answers.{unless_refused, unless_found}

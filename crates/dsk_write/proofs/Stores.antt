@@ -49,11 +49,6 @@ pub record Storing (part : ℕ → List ℕ) (place : ℕ → ℕ) (n : ℕ) (ol
   pub left : sets image (place k) (joined_from part k (n - k)) ≡ sets old (place 0) (joined_from part 0 n)
 
 module _ (part : ℕ → List ℕ) (place : ℕ → ℕ) (n : ℕ) (old : List ℕ) where
-  pub store_start : Storing part place n old old 0
-  store_start =
-      let e : n - 0 ≡ n = omega arith in
-      record { reached = omega arith; same = refl; left = ap (λ (m : ℕ). sets old (place 0) (joined_from part 0 m)) e }
-
   pub store_next : {image next : List ℕ} {k : ℕ} → Storing part place n old image k → k < n → place k + length (part k) ≡ place (k + 1)
       → next ≡ sets image (place k) (part k) → Storing part place n old next (k + 1)
   store_next {image} {next} {k} p h e q =

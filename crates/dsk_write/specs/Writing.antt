@@ -1,7 +1,6 @@
 -- What writing a DSK image answers, and what it leaves in the lent buffer (DK-26, DK-27).
 use Rattle.std.specs.Prelude.{ℕ, List, ◌++◌, length, drop, ltb, Result, Ok, Err}
-use Rattle.refusals.specs.Refusals.{Fault}
-use Rattle.refusals.specs.Refusals.{none, refusal, refuse_if, unless}
+use Rattle.refusals.specs.Refusals.{Fault, none, refusal, refuse_if, unless}
 use Rattle.dsk_layout.specs.declared.Layout.{Layout}
 use Rattle.dsk_layout.specs.Layouts.{bad_layout}
 use Rattle.dsk_write.specs.Images.{image_bytes}

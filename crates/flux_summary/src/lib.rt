@@ -27,15 +27,10 @@ pub fn summarize(flux: &[u8]) -> Result<Summary, Refusal>
     let mut open: u64 = 0;
     let mut total: u64 = 0;
     for pair in pairs {
-        let word = u16::from_be_bytes(*pair);
-        if word == 0 {
-            open += ZERO_TICKS;
-            total += ZERO_TICKS;
-        } else {
-            intervals += 1;
-            open = 0;
-            total += u64::from(word);
-        }
+        let word = u64::from(u16::from_be_bytes(*pair));
+        intervals += u64::from(word != 0);
+        open = if word == 0 { open + ZERO_TICKS } else { 0 };
+        total += if word == 0 { ZERO_TICKS } else { word };
     }
     Ok(Summary {
         intervals,

@@ -5,107 +5,68 @@
 
 ghost use Rattle.std.specs.Prelude.{◌≤◌};
 
-use flux::{Cursor, Filled, Step, Written};
+use flux::{Cursor, Filled, Step};
 use refusals::Refusal;
 
-// A write that fails is passed over: no answer depends on it.
-fn text(rt: &impl Print, s: &[u8]) {
-    let _ = rt.write_all(s);
-}
-
-fn newline(rt: &impl Print) {
-    text(rt, b"\n");
-}
-
-// A name and a number.
-fn field(rt: &impl Print, name: &[u8], n: u64) {
-    text(rt, name);
-    let _ = rt.print(n);
-}
+// A write that fails is passed over throughout: no answer depends on it.
 
 // ---- what the library answers, to the end of the line
 
-fn refused(rt: &impl Print, r: Refusal) {
-    field(rt, b" refused ", r.number as u64);
-    field(rt, b" at ", r.position);
-    newline(rt);
+fn filled(rt: &impl Print, answer: Result<Filled, Refusal>) {
+    let _ = match answer {
+        Ok(Filled { filled, open }) => println!(rt; " filled {filled} open {open}"),
+        Err(refusal) => println!(rt; " {refusal}"),
+    };
 }
 
-fn filled(rt: &impl Print, f: Filled) {
-    match f {
-        Filled::Places { filled, open } => {
-            field(rt, b" filled ", filled as u64);
-            field(rt, b" open ", open);
-            newline(rt);
-        }
-        Filled::Refused(r) => refused(rt, r),
-    }
+fn written(rt: &impl Print, answer: Result<usize, Refusal>) {
+    let _ = match answer {
+        Ok(n) => println!(rt; " bytes {n}"),
+        Err(refusal) => println!(rt; " {refusal}"),
+    };
 }
 
-fn written(rt: &impl Print, w: Written) {
-    match w {
-        Written::Bytes(n) => {
-            field(rt, b" bytes ", n as u64);
-            newline(rt);
-        }
-        Written::Refused(r) => refused(rt, r),
-    }
-}
-
-// The open time and the word to go on from.
-fn stepped_to(rt: &impl Print, open: u64, next: Cursor) {
-    field(rt, b" open ", open);
-    field(rt, b" next ", next.word as u64);
-    newline(rt);
-}
-
-fn stepped(rt: &impl Print, s: Step) {
-    match s {
-        Step::Interval {
-            ticks,
-            open,
-            closing,
-            next,
-        } => {
-            field(rt, b" interval ", ticks);
-            field(rt, b" closing ", closing as u64);
-            stepped_to(rt, open, next);
-        }
-        Step::Open { open, next } => stepped_to(rt, open, next),
-        Step::Refused(r) => refused(rt, r),
-    }
+fn stepped(rt: &impl Print, answer: Result<Step, Refusal>) {
+    let _ = match answer {
+        Ok(
+            Step::Interval {
+                ticks,
+                open,
+                closing,
+                next: Cursor { word },
+            },
+        ) => println!(rt; " interval {ticks} closing {closing} open {open} next {word}"),
+        Ok(
+            Step::Open {
+                open,
+                next: Cursor { word },
+            },
+        ) => println!(rt; " open {open} next {word}"),
+        Err(refusal) => println!(rt; " {refusal}"),
+    };
 }
 
 // ---- what buffers hold
 
-fn numbers(rt: &impl Print, name: &[u8], s: &[u64]) {
-    text(rt, name);
-    let mut i = 0;
-    while i < s.len() {
-        field(rt, b" ", s[i]);
-        i += 1;
+fn numbers(rt: &impl Print, name: &str, values: &[u64]) {
+    let _ = print!(rt; "{name}");
+    for n in values {
+        let _ = print!(rt; " {n}");
     }
 }
 
-fn wide(x: u8) -> u64 {
-    x as u64
-}
-
-fn bytes(rt: &impl Print, name: &[u8], s: &[u8]) {
-    text(rt, name);
-    let mut i = 0;
-    while i < s.len() {
-        text(rt, b" ");
-        let n = wide(s[i]);
-        let _ = print!(rt; "{n:02x}");
-        i += 1;
+fn bytes(rt: &impl Print, name: &str, values: &[u8]) {
+    let _ = print!(rt; "{name}");
+    for n in values {
+        let _ = print!(rt; " {n:02x}");
     }
 }
 
 // The length and the byte sum of what may be too long to print.
-fn digest(rt: &impl Print, name: &[u8], s: &[u8]) {
-    field(rt, name, s.len() as u64);
-    field(rt, b" sum ", octets::byte_sum(s) as u64);
+fn digest(rt: &impl Print, name: &str, values: &[u8]) {
+    let length = values.len();
+    let sum = octets::byte_sum(values);
+    let _ = print!(rt; "{name} {length} sum {sum}");
 }
 
 // ---- calls of the library
@@ -117,8 +78,8 @@ fn read(rt: &impl Print, flux: &[u8], places: usize)
     let mut buffer = [7, 8, 9, 10, 11, 12];
     let lent = &mut buffer[..places];
     let answer = flux::intervals(flux, lent);
-    digest(rt, b"read ", flux);
-    numbers(rt, b" leaves", lent);
+    digest(rt, "read", flux);
+    numbers(rt, " leaves", lent);
     filled(rt, answer);
 }
 
@@ -132,9 +93,9 @@ fn closed(rt: &impl Print, flux: &[u8], places: usize, more: usize)
     let lent = &mut times[..places];
     let also_lent = &mut closings[..more];
     let answer = flux::closed_intervals(flux, lent, also_lent);
-    digest(rt, b"closed ", flux);
-    numbers(rt, b" leaves", lent);
-    numbers(rt, b" and", also_lent);
+    digest(rt, "closed", flux);
+    numbers(rt, " leaves", lent);
+    numbers(rt, " and", also_lent);
     filled(rt, answer);
 }
 
@@ -145,8 +106,8 @@ fn write(rt: &impl Print, ticks: &[u64], room: usize)
     let mut buffer = [7, 8, 9, 10, 11, 12, 13, 14];
     let lent = &mut buffer[..room];
     let answer = flux::words(ticks, lent);
-    numbers(rt, b"write", ticks);
-    bytes(rt, b" leaves", lent);
+    numbers(rt, "write", ticks);
+    bytes(rt, " leaves", lent);
     written(rt, answer);
 }
 
@@ -154,7 +115,7 @@ fn write(rt: &impl Print, ticks: &[u64], room: usize)
 fn step(rt: &impl Print, flux: &[u8], word: usize) {
     let cursor = Cursor { word };
     let answer = cursor.step(flux);
-    field(rt, b"step ", word as u64);
+    let _ = print!(rt; "step {word}");
     stepped(rt, answer);
 }
 
@@ -163,13 +124,11 @@ fn step(rt: &impl Print, flux: &[u8], word: usize) {
 // Short flux, at one go into 0 to 6 places, with its closing words where either list has so many, and by a step from each of the words 0 to 6
 // and from the largest.
 fn short(rt: &impl Print, flux: &[u8]) {
-    let mut n: usize = 0;
-    while n <= 6 {
+    for n in 0..=6 {
         read(rt, flux, n);
         closed(rt, flux, n, 6);
         closed(rt, flux, 6, n);
         step(rt, flux, n);
-        n += 1;
     }
     step(rt, flux, usize::MAX);
 }
@@ -189,10 +148,8 @@ fn long(rt: &impl Print, flux: &[u8]) {
 
 // The words of times, into 0 to 8 bytes.
 fn times(rt: &impl Print, ticks: &[u64]) {
-    let mut n: usize = 0;
-    while n <= 8 {
+    for n in 0..=8 {
         write(rt, ticks, n);
-        n += 1;
     }
 }
 
@@ -225,8 +182,8 @@ fn back(rt: &impl Print, ticks: &[u64], room: usize)
     let mut buffer = buffer();
     let lent = &mut buffer[..room];
     let answer = flux::words(ticks, lent);
-    numbers(rt, b"write", ticks);
-    digest(rt, b" leaves ", lent);
+    numbers(rt, "write", ticks);
+    digest(rt, " leaves", lent);
     written(rt, answer);
     long(rt, lent);
 }

@@ -1,2 +1,1 @@
-pub mod LentPlaces
 pub mod UncutCodes

@@ -5,6 +5,9 @@ use mathlib.Core.List.{List, []}
 use mathlib.Core.Bool.{Bool, true, false, cond}
 use native.Mathlib.Omega.{arith}
 use lib.Dec.{eqb}
+use Rattle.std.specs.Prelude.{Option, Some}
+use Rattle.std.specs.Prelude as std
+use Rattle.scp_speed.specs.declared.TrackSpeeds.{TrackSpeeds}
 use Rattle.refusals.specs.Refusals.{Fault, none, passes}
 use Rattle.scp_fields.specs.declared.Edition.{Edition}
 use Rattle.scp_fields.specs.Editions.{slots}
@@ -17,7 +20,6 @@ use Rattle.scp_tracks.specs.Tracks.{duration_at, track_fault_at, track_fault, tr
 use Rattle.scp_open.specs.Opening.{open_fault}
 use Rattle.scp_speed.specs.Speeds.{longest, speeds_of}
 use Rattle.scp_speed.specs.declared.TrackSpeeds.{TrackSpeeds}
-use Rattle.scp_speed.specs.declared.SpeedRange.TheVariants as range
 use Rattle.scp_lookup.specs.Questions.{track_then, track_question, revolution_then, revolution_question}
 use Rattle.scp.specs.Validating.{validate_fault}
 use Rattle.scp.specs.Answers as answers
@@ -95,7 +97,7 @@ whole_either false a c h k = k
 pub whole_unless : (f : Fault) (a : Answer) → Small f → Whole a → Whole (unless f a)
 whole_unless f a h k = whole_either (passes f) a _ k (exact f.number f.position h.0 h.1)
 
-range_whole : (t : Bool) (s : TrackSpeeds) → Whole (of_speed_range (cond t range.None (range.Speeds s)))
+range_whole : (t : Bool) (s : TrackSpeeds) → Whole (of_speed_range (cond t std.None (Some s)))
 range_whole true s = tt
 range_whole false s = tt
 

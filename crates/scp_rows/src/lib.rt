@@ -3,13 +3,14 @@
 
 ghost use Rattle.std.specs.Prelude.{◌≡◌, replicate};
 ghost use Rattle.refusals.specs.Refusals.{number_of};
-ghost use Rattle.scp.specs.Answers.{refused, none, bytes, validate_answer, header_answer, footer_answer, track_answer, revolution_answer, flux_answer, of_speed_only, speed_answer, track_speed_answer};
+ghost use Rattle.scp.specs.Answers.{refused, none, bytes, validate_answer, header_answer, footer_answer, track_answer, revolution_answer, flux_answer, of_speed_only, speed_answer, of_speed_range, track_speed_answer};
 ghost use Rattle.scp_book.specs.Book.{asked};
 ghost use Rattle.copies.specs.Copying.{copied_at};
 ghost use Rattle.scp_rows.specs.Rows.{question_of, kind_of, row_of, Real};
 
 use refusals::Refusal;
 use scp_fields::Edition;
+use scp_speed::TrackSpeeds;
 
 // The kinds of questions (S-14).
 #[derive(Clone, Copy, Debug, PartialEq, Eq)]
@@ -28,6 +29,7 @@ pub enum Kind {
 impl From<u64> for Kind {
     ghost from_gives = { λ number kind. kind ≡ kind_of number };
 
+    #[tactic(auto, unfolding(crate::specs::Rows::kind_of))]
     fn from(number: u64) -> Kind {
         match number {
             1 => Kind::Header,
@@ -129,7 +131,7 @@ fn bytes_row(start: u64, part: &[u8]) -> [u64; 16]
     ensures { result ≡ row_of (bytes start part.now) }
 {
     let sum = octets::byte_sum(part);
-    values_row(&[start, part.len() as u64, u64::from(sum)])
+    values_row(&[start, part.len() as u64, sum as u64])
 }
 
 // The row of a revolution's flux.
@@ -168,14 +170,24 @@ fn speed_row(image: &[u8], edition: Edition, track: u32, revolution: u32) -> [u6
     }
 }
 
-// The row of a track's speeds.
+// The row of a track's speeds, or of none.
+fn speeds_row(speeds: Option<TrackSpeeds>) -> [u64; 16]
+    requires { Real (of_speed_range speeds) }
+    ensures { result ≡ row_of (of_speed_range speeds) }
+{
+    match speeds {
+        Some(s) => values_row(&[1, f64::to_bits(s.slowest), f64::to_bits(s.fastest)]),
+        None => plain_row(),
+    }
+}
+
+// The row of the speeds of a track.
 fn track_speed_row(image: &[u8], edition: Edition, track: u32) -> [u64; 16]
     ensures { result ≡ row_of (track_speed_answer edition image.now track) }
 {
     let found = scp::track_speed(image, edition, track);
     match found {
-        Ok(Some(s)) => values_row(&[1, f64::to_bits(s.slowest), f64::to_bits(s.fastest)]),
-        Ok(None) => plain_row(),
+        Ok(speeds) => speeds_row(speeds),
         Err(r) => refused_row(r),
     }
 }

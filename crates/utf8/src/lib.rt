@@ -98,7 +98,7 @@ fn ascii_blocks(blocks: &[[u8; 64]]) -> usize
         .unwrap_or(blocks.len())
 }
 
-// How many bytes of ASCII the text starts with, as far as it is searched one by one.
+// How many bytes of ASCII the text starts with, each tested by itself.
 fn ascii_bytes(text: &[u8]) -> usize
     ensures within { result ≤ length text.now }
     ensures ascii { IsAscii (take result text.now) }
@@ -124,6 +124,7 @@ pub fn valid_up_to(text: &[u8]) -> usize
     ensures { result ≡ valid_up_to text.now }
 {
     let mut at = 0;
+    // The place moves on by a whole sequence or run, so no iterator counts it.
     while at < text.len() {
         if text[at].is_ascii() {
             at += 1 + ascii_len(&text[at + 1..]);

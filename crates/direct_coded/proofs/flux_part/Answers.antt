@@ -1,25 +1,25 @@
--- The revolution is found, and where its flux starts and how long it is is put; or it is refused.
-use mathlib.Core.Path.{sym, ap, ◌∙◌}
+-- The revolution is found, and its flux is put, or where it stands; or it is refused.
+use mathlib.Core.Path.{ap, ◌∙◌}
 use Rattle.scp_fields.specs.Editions.{edition_of}
-use Rattle.scp.specs.Answers.{bytes, of_revolution}
+use Rattle.scp.specs.Answers.{bytes}
 use Rattle.scp_direct.proofs.DirectLaws.{direct_flux_found, direct_flux_refused}
 use Rattle.scp_boundary.specs.Boundary.{part_numbers}
 use Rattle.boundary.proofs.CodeAndBuffer.{pass_values, pass_refusal}
 use Rattle.direct_coded.proofs.flux_part.Goals as goal
 
-pub returns-in-Found : goal.returns-in-Found
-returns-in-Found c =
+pub returns-in-Ok : goal.returns-in-Ok
+returns-in-Ok c =
     let a = c.args in
-    let found = ap of_revolution (sym c.in-Found.is) ∙ (rw c.edition_of-named.ensures at c.revolution-asked.ensures) in
-    let d = c.in-Found.d in
-    let told = ap (bytes d.offset.0) c.flux_of-part.ensures.result_value ∙ direct_flux_found (edition_of a.edition) a.image.now a.track a.revolution d found in
+    let named = c.from-named.ensures ∙ ap edition_of c.from.ensures in
+    let d = c.in-Ok.d in
+    let told = ap (bytes d.offset.0) c.flux_of-part.ensures.result_value ∙ direct_flux_found (edition_of a.edition) a.image.now a.track a.revolution d (rw named at c.in-Ok.ensures) in
     let all = pass_values a.out.now (ap part_numbers told) (c.give.ensures.value, c.give.ensures.out_after) in
     record { value = all.0; out_after = all.1 }
 
-pub returns-in-Refused : goal.returns-in-Refused
-returns-in-Refused c =
+pub returns-in-Err : goal.returns-in-Err
+returns-in-Err c =
     let a = c.args in
-    let found = ap of_revolution (sym c.in-Refused.is) ∙ (rw c.edition_of-named.ensures at c.revolution-asked.ensures) in
-    let told = direct_flux_refused (edition_of a.edition) a.image.now a.track a.revolution _ found in
+    let named = c.from-named.ensures ∙ ap edition_of c.from.ensures in
+    let told = direct_flux_refused (edition_of a.edition) a.image.now a.track a.revolution _ (rw named at c.in-Err.ensures) in
     let all = pass_refusal a.out.now (ap part_numbers told) c.code.ensures in
     record { value = all.0; out_after = all.1 }

@@ -1,7 +1,7 @@
 -- The first bytes of what follows the offset.
 use Rattle.std.proofs.Common.{◌∙◌}
 use lib.Seq.{take_all}
-use Rattle.std.proofs.Common.{rules, ap, arith, take, drop, length, ◌≡◌, length-drop, ◌-◌, ◌≤◌}
+use Rattle.std.proofs.Common.{ap, arith, take, drop, length, length-drop, ◌-◌}
 use Rattle.dsk_fields.proofs.info_at.Goals as goal
 
 pub returns : goal.returns

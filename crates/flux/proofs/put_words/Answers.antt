@@ -51,14 +51,8 @@ module _ (ts : List ℕ) {d₀ d : List ℕ} {n i : ℕ} (there : i < length ts)
       let z = length-replicate {A = ℕ} (2 * (time / zero_ticks)) 0 in
       put_lent zeros room next (omega arith) (e ∙ ap (λ (k : ℕ). replicate k 0) (omega arith))
 
-pub overflow_add-end : goal.overflow_add-end
-overflow_add-end c = let b = fit c.args.times.now c.loop-time-test.true c.requires c.loop-time.invariant in omega arith
-
 pub slice_bounds-fill-end : goal.slice_bounds-fill-end
 slice_bounds-fill-end c = let b = fit c.args.times.now c.loop-time-test.true c.requires c.loop-time.invariant in search rules
-
-pub overflow_add-at : goal.overflow_add-at
-overflow_add-at c = let b = fit c.args.times.now c.loop-time-test.true c.requires c.loop-time.invariant in omega arith
 
 pub slice_bounds-copy_from_slice-end : goal.slice_bounds-copy_from_slice-end
 slice_bounds-copy_from_slice-end c = let b = fit c.args.times.now c.loop-time-test.true c.requires c.loop-time.invariant in search rules

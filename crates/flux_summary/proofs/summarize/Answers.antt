@@ -1,17 +1,18 @@
 -- The numbers are those of the definition: at a zero word, at any other, and where no word is left.
-use mathlib.Core.Path.{◌≡◌, refl, sym, ◌∙◌}
+use mathlib.Core.Path.{◌≡◌, sym, ◌∙◌}
+use mathlib.Core.Bool.{not}
 use native.Mathlib.Omega.{arith}
+use lib.Dec.{eqb}
 use lib.ListN.{length}
 use Rattle.flux.specs.Coding.{words_of}
 use Rattle.flux.specs.Reading.{intervals, total_ticks}
 use Rattle.flux.proofs.Counting.{counted}
 use Rattle.flux.proofs.WordLaws.{
   WordAt,
-  good_size,
+  at_most_one,
   word_read,
   no_more,
-  closing_zero,
-  closing_close,
+  closing_more,
   closing_end,
   open_zero,
   open_close,
@@ -21,45 +22,29 @@ use Rattle.flux.proofs.WordLaws.{
   total_end,
 }
 use Rattle.flux_summary.proofs.summarize.Goals as goal
-use Rattle.flux_summary.proofs.summarize.Goals.{then-word-eq0, else-word-eq0}
-
-pub loop-pair-init : goal.loop-pair-init
-loop-pair-init c =
-    let good = good_size _ (sym c.bad_flux_size.ensures ∙ c.if-bad_flux_size.false) in
-    record { limit = good.limit; few = omega arith; short = omega arith; small = omega arith; count = omega arith; rest = refl; sum = omega arith }
+use Rattle.flux_summary.proofs.summarize.Goals.{then-word-eq0, else-word-eq0, then-word-eq0-2, else-word-eq0-2}
 
 pub loop-pair-preserved : goal.loop-pair-preserved
 loop-pair-preserved c =
     let l = c.loop-pair.invariant in
-    let at : WordAt (words_of c.args.flux.now) c.loop-pair.pair-index c.from_be_bytes-word.result = word_read _ _ c.as_chunks.ensures.front c.loop-pair-test.true c.from_be_bytes-word.ensures in
-    elim c.if-word-eq0.branch [
-      | then-word-eq0 w ↦
-          let zero = w.if-word-eq0.true in
-          let count = closing_zero at zero in
-          let sum = total_zero at zero in
-          record {
-            limit = l.limit;
-            few = omega arith;
-            short = omega arith;
-            small = omega arith;
-            count = omega arith;
-            rest = rw w.open-is (sym (open_zero at zero _) ∙ l.rest);
-            sum = omega arith;
-          }
-      | else-word-eq0 w ↦
-          let not_zero = w.if-word-eq0.false in
-          let count = closing_close at not_zero in
-          let sum = total_close at not_zero in
-          record {
-            limit = l.limit;
-            few = omega arith;
-            short = omega arith;
-            small = omega arith;
-            count = omega arith;
-            rest = rw w.open-is (sym (open_close at not_zero _) ∙ l.rest);
-            sum = omega arith;
-          }
-    ]
+    let at : WordAt (words_of c.args.flux.now) c.loop-pair.pair-index c.from-word.result = word_read _ _ c.as_chunks.ensures.front c.loop-pair-test.true (c.from-word.ensures ∙ c.from_be_bytes.ensures) in
+    let more = closing_more at in
+    let one = at_most_one (not (eqb c.from-word.result 0)) in
+    record {
+      limit = l.limit;
+      few = omega arith;
+      short = elim c.if-word-eq0.branch [ then-word-eq0 w ↦ omega arith | else-word-eq0 w ↦ omega arith ];
+      small = elim c.if-word-eq0-2.branch [ then-word-eq0-2 w ↦ omega arith | else-word-eq0-2 w ↦ omega arith ];
+      count = omega arith;
+      rest = elim c.if-word-eq0.branch [
+        | then-word-eq0 w ↦ rw w.open-is (sym (open_zero at w.if-word-eq0.true _) ∙ l.rest)
+        | else-word-eq0 w ↦ rw w.open-is (sym (open_close at w.if-word-eq0.false _) ∙ l.rest)
+      ];
+      sum = elim c.if-word-eq0-2.branch [
+        | then-word-eq0-2 w ↦ let sum = total_zero at w.if-word-eq0-2.true in omega arith
+        | else-word-eq0-2 w ↦ let sum = total_close at w.if-word-eq0-2.false in omega arith
+      ];
+    }
 
 pub returns : goal.returns
 returns c =

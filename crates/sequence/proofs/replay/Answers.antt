@@ -1,8 +1,10 @@
 -- Too few places refuse, and nothing is done; else the calls are run, and demand 3 holds of them, since the elements of the image and of
 -- the words are bytes.
 use Prim.Native.Nat.{◌*◌, ◌/◌, ◌<◌, ◌≤◌}
+use mathlib.Core.Path.{ap}
 use native.Mathlib.Omega.{arith}
 use lib.ListN.{length}
+use Rattle.refusals.specs.Refusals.{in_table}
 use Rattle.sequence.proofs.ReplayLaws.{refused_replay, done_replay}
 use Rattle.sequence.specs.Calls.{call_size}
 use Rattle.sequence.proofs.replay.Goals as goal
@@ -11,7 +13,7 @@ pub returns-then-answers-calls : goal.returns-then-answers-calls
 returns-then-answers-calls c =
     let a = c.args in
     let few : length a.answers.now < 16 * (length a.calls.now / call_size) = omega arith in
-    let all = refused_replay _ _ _ _ few c.refuse.ensures in
+    let all = refused_replay _ _ _ _ few (ap in_table c.at.ensures) in
     record { result_value = all.0; replays = all.1 }
 
 pub returns : goal.returns

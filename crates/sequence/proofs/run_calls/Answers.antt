@@ -32,7 +32,7 @@ loop-i-preserved c =
       l.invariant.1,
       omega arith,
       final_next calls words _ _ _ l.i _ below made.image_after l.invariant.3,
-      moved (sym (c.numbers.ensures.out_after ∙ copy_fits l.answers c.call_row-row.result _ fits)) refl
+      moved (sym (c.copy.ensures.out_after ∙ copy_fits l.answers c.call_row-row.result _ fits)) refl
           (wrote_next calls words _ _ _ _ _ _ l.i _ below whole made.image_after made.value l.invariant.4),
     )
 
