@@ -2,93 +2,99 @@
 // `stdout` is what that works out, which shares nothing with this code.
 #![tactic(auto)]
 
-use scp::Validated;
+use refusals::Refusal;
 use scp_fields::Edition;
-use sequence::Replayed;
+use std::alloc::AllocError;
 
-// A write that fails is passed over: no answer depends on it.
-fn text(rt: &impl Print, s: &[u8]) {
-    let _ = rt.write_all(s);
+// How many numbers a row has, and a list of calls: 21 calls each time.
+const ROW: usize = 16;
+
+const CALL_NUMBERS: usize = 153;
+
+// The runs: a name, the bytes of the image, and the places for the answers; a place too few, three more than they take, and as many as they take.
+const RUNS: [(&str, usize, usize); 7] = [
+    ("a place too few", 712, 335),
+    ("a", 712, 339),
+    ("old_footer", 768, 336),
+    ("string_in_flux", 800, 336),
+    ("text_in_flux", 800, 336),
+    ("taken_back", 712, 336),
+    ("shorter", 712, 336),
+];
+
+// A number and a space. A write that fails is passed over, here and below: no answer depends on it.
+fn print_number(rt: &impl Print, n: u64) {
+    let _ = print!(rt; "{n} ");
 }
 
-// A number and a space.
-fn number(rt: &impl Print, n: u64) {
-    let _ = rt.print(n);
-    text(rt, b" ");
-}
-
-// The numbers, 16 to a line.
+// The numbers, a row to a line.
 fn print_rows(rt: &impl Print, answers: &[u64]) {
-    let mut i = 0;
-    while i < answers.len() {
-        number(rt, answers[i]);
-        if i % 16 == 15 {
-            text(rt, b"\n");
+    let (rows, rest) = answers.as_chunks::<ROW>();
+    for row in rows {
+        for n in row {
+            print_number(rt, *n);
         }
-        i += 1;
+        let _ = println!(rt);
     }
-    text(rt, b"\n");
+    for n in rest {
+        print_number(rt, *n);
+    }
+    let _ = println!(rt);
 }
 
-fn print_replayed(rt: &impl Print, r: Replayed) {
-    match r {
-        Replayed::Done => text(rt, b"done\n"),
-        Replayed::Refused(r) => {
-            text(rt, b"refused ");
-            number(rt, r.number as u64);
-            text(rt, b"at ");
-            number(rt, r.position);
-            text(rt, b"\n");
-        }
-    }
+fn print_replayed(rt: &impl Print, replayed: Result<(), Refusal>) {
+    let _ = match replayed {
+        Ok(()) => println!(rt; "done"),
+        Err(refusal) => println!(rt; "{refusal} "),
+    };
 }
 
 // The stored checksum, the byte sum, and by which editions the image is valid.
 fn print_image(rt: &impl Print, image: &[u8]) {
-    text(rt, b"image ");
-    number(rt, octets::le32(image, 12) as u64);
-    number(rt, octets::byte_sum(image) as u64);
-    if let Validated::Valid = scp::validate(image, Edition::V1_6) {
-        text(rt, b"valid by 1.6 ");
+    let stored = scp_fields::checksum(image);
+    let sum = octets::byte_sum(image);
+    let _ = print!(rt; "image {stored} {sum} ");
+    for (name, edition) in [("1.6", Edition::V1_6), ("1.4", Edition::V1_4)] {
+        if scp::validate(image, edition).is_ok() {
+            let _ = print!(rt; "valid by {name} ");
+        }
     }
-    if let Validated::Valid = scp::validate(image, Edition::V1_4) {
-        text(rt, b"valid by 1.4 ");
-    }
-    text(rt, b"\n");
+    let _ = println!(rt);
 }
 
 // Reads the numbers of a list of calls, each of 8 bytes, the lowest first.
-fn read_calls(rt: &impl Input) -> [u64; 153] {
-    let mut bytes = [0u8; 1224];
-    reading::read_full(&mut rt.reader(), &mut bytes);
-    let mut calls = [0; 153];
-    let mut i = 0;
-    while i < 153 {
-        calls[i] = octets::unsigned(octets::le64(&bytes, 8 * i));
-        i += 1;
-    }
-    calls
+fn read_calls(rt: &impl Input) -> [u64; CALL_NUMBERS] {
+    let mut numbers = [[0; 8]; CALL_NUMBERS];
+    reading::read_full(&mut rt.reader(), numbers.as_flattened_mut());
+    numbers.map(u64::from_le_bytes)
 }
 
 // Reads an image, its calls and their words, makes the calls, and shows the answers and what becomes of the image.
-fn run(rt: &(impl Input + Print), name: &[u8], image: &mut [u8], answers: &mut [u64]) {
-    text(rt, name);
-    reading::read_full(&mut rt.reader(), image);
+fn run(
+    rt: &(impl Input + Print + AllocGlobal),
+    name: &str,
+    size: usize,
+    places: usize,
+) -> Result<(), AllocError> {
+    let mut image = vec![in rt.alloc(); 0; size]?;
+    let mut answers = vec![in rt.alloc(); 7; places]?;
+    let _ = println!(rt; "== {name}");
+    reading::read_full(&mut rt.reader(), &mut image);
     let calls = read_calls(rt);
     let mut words = [0; 34];
     reading::read_full(&mut rt.reader(), &mut words);
-    print_replayed(rt, sequence::replay(image, &calls, &words, answers));
-    print_rows(rt, answers);
-    print_image(rt, image);
+    print_replayed(
+        rt,
+        sequence::replay(&mut image, &calls, &words, &mut answers),
+    );
+    print_rows(rt, &answers);
+    print_image(rt, &image);
+    Ok(())
 }
 
-// 21 calls each time: with a place too few for their answers, with three more than they take, and with as many as they take.
-fn main(rt: HostRuntime) {
-    run(&rt, b"== a place too few\n", &mut [0; 712], &mut [7; 335]);
-    run(&rt, b"== a\n", &mut [0; 712], &mut [7; 339]);
-    run(&rt, b"== old_footer\n", &mut [0; 768], &mut [7; 336]);
-    run(&rt, b"== string_in_flux\n", &mut [0; 800], &mut [7; 336]);
-    run(&rt, b"== text_in_flux\n", &mut [0; 800], &mut [7; 336]);
-    run(&rt, b"== taken_back\n", &mut [0; 712], &mut [7; 336]);
-    run(&rt, b"== shorter\n", &mut [0; 712], &mut [7; 336]);
+fn main(rt: HostRuntime) -> Result<(), AllocError> {
+    for (name, size, places) in RUNS {
+        run(&rt, name, size, places)?;
+    }
+    Ok(())
 }

@@ -1,10 +1,9 @@
 -- What is counted up to a word, and what is left from there, make up the whole; a step moves one interval over.
 use Rattle.std.proofs.Common.{◌≡◌, ℕ, ◌+◌, ◌-◌, ◌<◌, ◌≤◌, false, List, [], ◌∷◌, length, drop, sym, refl, ap, ◌∙◌, arith, drop_of_length-le}
-use Rattle.flux.specs.Coding.{words_of, bad_flux_size, flux_limit}
+use Rattle.flux.specs.Coding.{words_of, bad_flux_size}
 use Rattle.flux.specs.Reading.{intervals, open_time, closing_numbers}
 use Rattle.flux.specs.Answers.{Answer, refused, gives, step_from, step_at}
-use Rattle.flux.proofs.WordLaws.{length_words, good_size}
-use Rattle.flux.proofs.Counting.{counted, at_most_words}
+use Rattle.flux.proofs.WordLaws.{length_words}
 use Rattle.flux_theorems.proofs.Stepping.{Found, closes, ends, found}
 use Rattle.scp_listing.specs.Counting.{last_of, Counts}
 
@@ -49,20 +48,6 @@ module _ (s : List ℕ) (word m c t n l left : ℕ) (more : word < m) (some : 0 
         enough = omega (arith, h.enough);
       }
 
-  few : bad_flux_size (length s) ≡ false → n + 1 ≤ flux_limit
-  few good =
-      let size = ap length i in
-      let all = counted (words_of s) in
-      let most = at_most_words (words_of s) in
-      let words = length_words s in
-      let limit = (good_size (length s) good).limit in
-      omega (arith, h.count)
-
--- One interval more is counted, and the cursor is at the word after its closing one.
-pub record Moved (s : List ℕ) (m n c left : ℕ) : Type 0 where
-  pub few : n + 1 ≤ flux_limit
-  pub rest : Left s m (n + 1) c (left - 1)
-
 module _ (s : List ℕ) (good : bad_flux_size (length s) ≡ false) (word : ℕ) where
   -- what a step found, by what it answers
   step_is : {a : Answer} → a ≡ step_at s word → step_from word 0 word (drop word (words_of s)) ≡ a
@@ -78,15 +63,15 @@ module _ (s : List ℕ) (good : bad_flux_size (length s) ≡ false) (word : ℕ)
       go q (closes t m c l f i k o) = let z : ◌≡◌ {A = ℕ} 0 1 = cc in omega arith
       go q (ends f i k) = let z : ◌≡◌ {A = ℕ} 0 1 = cc in omega arith
 
-  pub left_step : (t o m c n l left : ℕ) → gives (t ∷ o ∷ m ∷ c ∷ []) ≡ step_at s word → 0 < left → Left s word n l left → Moved s m n c left
+  pub left_step : (t o m c n l left : ℕ) → gives (t ∷ o ∷ m ∷ c ∷ []) ≡ step_at s word → 0 < left → Left s word n l left → Left s m (n + 1) c (left - 1)
   left_step t o m c n l left e some h = go (step_is e) at_word
     where
       go : step_from word 0 word (drop word (words_of s)) ≡ gives (t ∷ o ∷ m ∷ c ∷ []) → Found (words_of s) word 0 word (drop word (words_of s))
-          → Moved s m n c left
+          → Left s m (n + 1) c (left - 1)
       go q (closes t' m' c' more f i k r) =
           let em : m' ≡ m = cc in
           let ec : c' ≡ c = cc in
-          rw (← em, ← ec) (record { few = few s word m' c' t' n l left more some i k r h good; rest = moved s word m' c' t' n l left more some i k r h })
+          rw (← em, ← ec) (moved s word m' c' t' n l left more some i k r h)
       go q (ends f i k) = let z : ◌≡◌ {A = ℕ} 0 1 = cc in absurd (omega arith)
 
   pub left_open : (o m n l left : ℕ) → gives (o ∷ m ∷ []) ≡ step_at s word → Left s word n l left → Counts s n o l

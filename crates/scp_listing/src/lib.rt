@@ -7,39 +7,18 @@ ghost use Rattle.flux.specs.Coding.{bad_flux_size};
 ghost use Rattle.scp_listing.specs.Counting.{Counts};
 ghost use Rattle.scp_fields.specs.declared.Edition.TheVariants.{V1_6};
 ghost use Rattle.scp.specs.Answers.{of_validated, validate_answer};
-ghost use Rattle.refusals.specs.Refusals.{refusal};
+ghost use Rattle.refusals.specs.Refusals.{found, in_table, refusal};
 
 use flux::{Cursor, Step};
-use refusals::Refusal;
-use scp::Validated;
+use refusals::{Reason, Refusal};
 use scp_fields::Edition;
+use scp_tracks::RevolutionData;
 
 // The most bytes that the listing program takes.
 pub const INPUT_LIMIT: usize = 65_536;
 
-// A write that fails is passed over: no answer depends on it.
-fn text(rt: &impl Print, s: &[u8]) {
-    let _ = rt.write_all(s);
-}
-
-fn newline(rt: &impl Print) {
-    text(rt, b"\n");
-}
-
-// A name and a number.
-fn field(rt: &impl Print, name: &[u8], n: u64) {
-    text(rt, name);
-    let _ = rt.print(n);
-}
-
-// The line of a refusal.
-fn print_refusal(rt: &impl Print, r: Refusal) {
-    field(rt, b"refused ", r.number as u64);
-    field(rt, b" at ", r.position);
-    newline(rt);
-}
-
-// How many intervals flux has, its open time, and the number of its last closing word, 0 where there is no interval.
+// How many intervals flux has, its open time, and the number of its last closing word. Where there is no interval, that is 0, as the definition
+// `Counts` has it.
 #[derive(Clone, Copy)]
 struct Counted {
     intervals: u64,
@@ -52,34 +31,24 @@ struct Counted {
 fn count_flux(flux: &[u8]) -> Counted
     ensures { bad_flux_size (length flux.now) ≡ false → Counts flux.now result.intervals result.«open» result.last }
 {
-    let mut word: usize = 0;
+    let mut cursor = Cursor { word: 0 };
     let mut intervals: u64 = 0;
     let mut last: usize = 0;
-    let mut left = flux.len();
-    while 0 < left {
-        left -= 1;
-        let cursor = Cursor { word };
+    for _ in 0..flux.len() {
         match cursor.step(flux) {
-            Step::Interval {
-                ticks: _,
-                open: _,
-                closing,
-                next,
-            } => {
+            Ok(Step::Interval { closing, next, .. }) => {
                 last = closing;
-                word = next.word;
-                intervals = std::num::wrapping_add_u64(intervals, 1);
+                cursor = next;
+                intervals += 1;
             }
-            Step::Open { open, next: _ } => {
+            Ok(Step::Open { open, .. }) => {
                 return Counted {
                     intervals,
                     open,
                     last,
                 };
             }
-            Step::Refused(_) => {
-                left = 0;
-            }
+            Err(_) => break,
         }
     }
     Counted {
@@ -89,90 +58,66 @@ fn count_flux(flux: &[u8]) -> Counted
     }
 }
 
-// The number of the last closing word, or a dash where there is none.
-fn print_last(rt: &impl Print, counted: Counted) {
-    if counted.intervals == 0 {
-        text(rt, b" last -");
-    } else {
-        field(rt, b" last ", counted.last as u64);
-    }
-}
-
-fn print_flux(rt: &impl Print, flux: &[u8]) {
-    let counted = count_flux(flux);
-    field(rt, b" intervals ", counted.intervals);
-    field(rt, b" open ", counted.open);
-    print_last(rt, counted);
-}
-
-// The line of revolution k of track t, whose header stands at the entry.
+// The line of revolution k of track t, whose header stands at the entry. Here and below a write that fails is passed over: no answer depends on it.
 fn print_revolution(rt: &impl Print, image: &[u8], t: u32, entry: u32, k: u32) {
     let data = scp_tracks::revolution_data(image, entry, k);
-    field(rt, b"track ", t as u64);
-    field(rt, b" turn ", k as u64);
-    field(rt, b" ticks ", data.duration as u64);
-    field(rt, b" words ", data.words as u64);
-    print_flux(rt, scp_lookup::flux_of(image, data));
-    newline(rt);
+    let RevolutionData {
+        duration,
+        words,
+        ..
+    } = data;
+    let Counted {
+        intervals,
+        open,
+        last,
+    } = count_flux(scp_lookup::flux_of(image, data));
+    let _ = print!(rt;
+        "track {t} turn {k} ticks {duration} words {words} intervals {intervals} open {open} last "
+    );
+    // the number of the last closing word, or a dash where there is none
+    let _ = if intervals == 0 {
+        println!(rt; "-")
+    } else {
+        println!(rt; "{last}")
+    };
 }
 
-// The lines of a track's revolutions; none where its entry is 0.
-fn print_track(rt: &impl Print, image: &[u8], t: u32) {
-    let entry = scp_fields::track_entry(image, t);
-    if entry == 0 {
-        return;
-    }
-    let revolutions = scp_fields::revolutions(image) as u32;
-    let mut k: u32 = 0;
-    while k < revolutions {
-        print_revolution(rt, image, t, entry, k);
-        k += 1;
-    }
-}
-
-// How many tracks are present.
-fn count_tracks(image: &[u8]) -> u64 {
-    let mut n: u64 = 0;
-    let mut t: usize = 0;
-    while t < scp_fields::TRACK_SLOTS {
-        if scp_fields::track_entry(image, t as u32) != 0 {
-            n = std::num::wrapping_add_u64(n, 1);
-        }
-        t += 1;
-    }
-    n
-}
-
-// The line of the image.
-fn print_image(rt: &impl Print, image: &[u8]) {
-    field(rt, b"ok ", image.len() as u64);
-    field(rt, b" tracks ", count_tracks(image));
-    field(rt, b" turns ", scp_fields::revolutions(image) as u64);
-    field(rt, b" sum ", scp_fields::checksum(image) as u64);
-    newline(rt);
-}
-
-// The lines of all tracks.
+// The lines of the revolutions of all tracks that are present.
 fn print_tracks(rt: &impl Print, image: &[u8]) {
-    let mut t: usize = 0;
-    while t < scp_fields::TRACK_SLOTS {
-        print_track(rt, image, t as u32);
-        t += 1;
+    let revolutions = scp_fields::revolutions(image) as u32;
+    for t in 0..scp_fields::TRACK_SLOTS as u32 {
+        let entry = scp_fields::track_entry(image, t);
+        if entry != 0 {
+            for k in 0..revolutions {
+                print_revolution(rt, image, t, entry, k);
+            }
+        }
     }
+}
+
+// The line of the image: its length, how many tracks are present, the revolutions of each, and the checksum.
+fn print_image(rt: &impl Print, image: &[u8]) {
+    let length = image.len();
+    let tracks = (0..scp_fields::TRACK_SLOTS as u32)
+        .filter(|t| scp_fields::track_entry(image, *t) != 0)
+        .count();
+    let revolutions = scp_fields::revolutions(image);
+    let checksum = scp_fields::checksum(image);
+    let _ = println!(rt; "ok {length} tracks {tracks} turns {revolutions} sum {checksum}");
 }
 
 // Validates an image and writes its listing: what refuses it, or a line for the image and one for each revolution of each present track.
-pub fn list(rt: &impl Print, image: &[u8]) -> Validated
-    ensures { of_validated result ≡ validate_answer V1_6 image.now }
+pub fn list(rt: &impl Print, image: &[u8]) -> Result<(), Refusal>
+    ensures { of_validated (found result) ≡ validate_answer V1_6 image.now }
 {
     let answer = scp::validate(image, Edition::V1_6);
     match answer {
-        Validated::Valid => {
+        Ok(()) => {
             print_image(rt, image);
             print_tracks(rt, image);
         }
-        Validated::Refused(r) => {
-            print_refusal(rt, r);
+        Err(refusal) => {
+            let _ = println!(rt; "{refusal}");
         }
     }
     answer
@@ -180,9 +125,9 @@ pub fn list(rt: &impl Print, image: &[u8]) -> Validated
 
 // What is printed of input that is longer than the listing takes: refusal 1.
 pub fn too_long(rt: &impl Print) -> Refusal
-    ensures { result ≡ refusal 1 0 }
+    ensures { in_table result ≡ refusal 1 0 }
 {
-    let r = refusals::refuse(refusals::SIZE, 0);
-    print_refusal(rt, r);
-    r
+    let refusal = Reason::Size.at(0);
+    let _ = println!(rt; "{refusal}");
+    refusal
 }

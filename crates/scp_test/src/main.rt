@@ -4,368 +4,279 @@
 
 use flux::Filled;
 use refusals::Refusal;
-use scp::{FooterAnswer, FooterData, HeaderAnswer, SpeedAnswer, TrackSpeedAnswer, Validated};
+use scp::FooterData;
 use scp_fields::Edition;
-use scp_lookup::{RevolutionAnswer, TrackAnswer, TrackData};
+use scp_lookup::TrackData;
 use scp_open::Header;
-use scp_speed::{Speed, TrackSpeeds};
+use scp_speed::TrackSpeeds;
 use scp_tracks::RevolutionData;
 use std::rt::Files;
-use std::{env, fs, io};
+use std::{env, io};
 
-// A write that fails is passed over: no answer depends on it.
-fn text(rt: &impl Print, s: &[u8]) {
-    let _ = rt.write_all(s);
+// The most bytes of a file that are read.
+const FILE_LIMIT: usize = 65_536;
+
+// The tracks that are asked for: the first two, the last of each edition and those past it, and one that no image has.
+const TRACKS: [u32; 7] = [0, 1, 165, 166, 167, 168, u32::MAX];
+
+// The speed that is told apart from any other, in rpm.
+const RPM: f64 = 300.0;
+
+// An image, and the edition by which it is asked. A write that fails is passed over: no answer depends on it.
+#[derive(Clone, Copy)]
+struct Asked<'a> {
+    image: &'a [u8],
+    edition: Edition,
 }
 
-fn newline(rt: &impl Print) {
-    text(rt, b"\n");
-}
+// ---- what is answered
 
-// A name and a number.
-fn field(rt: &impl Print, name: &[u8], n: u64) {
-    text(rt, name);
-    let _ = rt.print(n);
-}
-
-// A name and a number before what is said of it.
-fn title(rt: &impl Print, name: &[u8], n: u32) {
-    field(rt, name, n as u64);
-    text(rt, b":");
-}
-
-// A space and a number.
-fn number(rt: &impl Print, n: u64) {
-    field(rt, b" ", n);
-}
-
-fn number_32(rt: &impl Print, n: u32) {
-    number(rt, n as u64);
-}
-
-fn number_8(rt: &impl Print, n: u8) {
-    number(rt, n as u64);
-}
-
-fn sign(rt: &impl Print, n: i64) {
-    if n < 0 {
-        text(rt, b" -");
-    } else {
-        text(rt, b" +");
-    }
-}
-
-// A signed number: its sign, and the bits of its two's complement in two halves.
-fn signed(rt: &impl Print, n: i64) {
-    let mut bytes = [0u8; 8];
-    octets::put_le64(&mut bytes, 0, n);
-    sign(rt, n);
-    let high = octets::le32(&bytes, 4);
-    let low = octets::le32(&bytes, 0);
-    let _ = print!(rt; "{high:08x}{low:08x}");
-}
-
-fn print_refusal(rt: &impl Print, r: Refusal) {
-    field(rt, b" refused ", r.number as u64);
-    field(rt, b" at ", r.position);
-}
-
-fn flag(rt: &impl Print, name: &[u8], on: bool) {
-    text(rt, name);
-    if on {
-        number(rt, 1);
-    } else {
-        number(rt, 0);
-    }
-}
-
-fn header_fields(rt: &impl Print, h: Header) {
-    text(rt, b"header");
-    number_8(rt, h.version);
-    number_8(rt, h.disk);
-    number_8(rt, h.revolutions);
-    number_8(rt, h.start);
-    number_8(rt, h.end);
-    number_8(rt, h.flags);
-    number_8(rt, h.width);
-    number_8(rt, h.heads);
-    number_32(rt, h.checksum);
-}
-
-// The header's fields, or why every question is refused; whether there is more to ask.
-fn print_header(rt: &impl Print, image: &[u8], edition: Edition) -> bool {
-    match scp::header(image, edition) {
-        HeaderAnswer::Found(h) => {
-            header_fields(rt, h);
-            newline(rt);
-            true
-        }
-        HeaderAnswer::Refused(r) => {
-            text(rt, b"asked:");
-            print_refusal(rt, r);
-            newline(rt);
-            false
-        }
-    }
-}
-
-fn footer_fields(rt: &impl Print, f: FooterData) {
-    number_32(rt, f.maker);
-    number_32(rt, f.model);
-    number_32(rt, f.serial);
-    number_32(rt, f.creator);
-    number_32(rt, f.application);
-    number_32(rt, f.comments);
-    signed(rt, f.created);
-    signed(rt, f.modified);
-    number_8(rt, f.software);
-    number_8(rt, f.hardware);
-    number_8(rt, f.firmware);
-    number_8(rt, f.format);
-}
-
-fn print_footer(rt: &impl Print, image: &[u8], edition: Edition) {
-    text(rt, b"footer");
-    match scp::footer(image, edition) {
-        FooterAnswer::Found(f) => footer_fields(rt, f),
-        FooterAnswer::None => text(rt, b" none"),
-        FooterAnswer::Refused(r) => print_refusal(rt, r),
-    }
-}
-
-fn print_rpm(rt: &impl Print, s: Speed) {
-    match s {
-        Speed::Rpm(x) => flag(rt, b" 300", x == 300.0),
-        Speed::None => text(rt, b" none"),
-    }
-}
-
-fn print_speed(rt: &impl Print, image: &[u8], edition: Edition, t: u32, k: u32) {
-    text(rt, b" speed");
-    match scp::speed(image, edition, t, k) {
-        SpeedAnswer::Found(s) => print_rpm(rt, s),
-        SpeedAnswer::Refused(r) => print_refusal(rt, r),
-    }
-}
-
-fn print_filled(rt: &impl Print, answer: Filled) {
-    match answer {
-        Filled::Places { filled, open } => {
-            field(rt, b" filled ", filled as u64);
-            field(rt, b" open ", open);
-        }
-        Filled::Refused(r) => print_refusal(rt, r),
-    }
-}
-
-fn print_intervals(rt: &impl Print, image: &[u8], edition: Edition, t: u32, k: u32) {
-    text(rt, b" intervals");
-    print_filled(
-        rt,
-        scp::revolution_intervals(image, edition, t, k, &mut [0; 2]),
+fn print_header(rt: &impl Print, header: Header) {
+    let Header {
+        version,
+        disk,
+        revolutions,
+        start,
+        end,
+        flags,
+        width,
+        heads,
+        checksum,
+    } = header;
+    let _ = println!(rt;
+        "header {version} {disk} {revolutions} {start} {end} {flags} {width} {heads} {checksum}"
     );
 }
 
-// The intervals with their closing words, into three places and two: the answer, and what the two then hold.
-fn print_closed(rt: &impl Print, image: &[u8], edition: Edition, t: u32, k: u32) {
-    let mut times = [4, 5, 6];
-    let mut closings = [7, 8];
-    text(rt, b" closed");
-    print_filled(
-        rt,
-        scp::revolution_closed_intervals(image, edition, t, k, &mut times, &mut closings),
-    );
-    text(rt, b" times");
-    number(rt, times[0]);
-    number(rt, times[1]);
-    number(rt, times[2]);
-    text(rt, b" by");
-    number(rt, closings[0]);
-    number(rt, closings[1]);
+// A signed number: its sign, and the bits of its two's complement.
+fn print_signed(rt: &impl Print, n: i64) {
+    let sign = if n < 0 { '-' } else { '+' };
+    let bits = n.cast_unsigned();
+    let _ = print!(rt; " {sign}{bits:016x}");
 }
 
-fn revolution_fields(rt: &impl Print, d: RevolutionData) {
-    let offset = d.offset;
-    number_32(rt, d.duration);
-    number_32(rt, d.words);
-    number(rt, offset.0);
+fn print_footer_data(rt: &impl Print, footer: FooterData) {
+    let FooterData {
+        maker,
+        model,
+        serial,
+        creator,
+        application,
+        comments,
+        created,
+        modified,
+        software,
+        hardware,
+        firmware,
+        format,
+    } = footer;
+    let _ = print!(rt; "footer {maker} {model} {serial} {creator} {application} {comments}");
+    print_signed(rt, created);
+    print_signed(rt, modified);
+    let _ = println!(rt; " {software} {hardware} {firmware} {format}");
 }
 
-fn print_flux(rt: &impl Print, image: &[u8], edition: Edition, t: u32, k: u32) {
-    field(rt, b" flux ", scp::flux(image, edition, t, k).len() as u64);
+fn print_track_data(rt: &impl Print, track: Result<TrackData, Refusal>) {
+    let _ = match track {
+        Ok(
+            TrackData {
+                cylinder,
+                head,
+                offset,
+                revolutions,
+            },
+        ) => print!(rt; " {cylinder} {head} {} {revolutions}", offset.0),
+        Err(refusal) => print!(rt; " {refusal}"),
+    };
 }
 
-fn print_revolution(rt: &impl Print, image: &[u8], edition: Edition, t: u32, k: u32) {
-    title(rt, b"turn ", k);
-    match scp::revolution(image, edition, t, k) {
-        RevolutionAnswer::Found(d) => {
-            revolution_fields(rt, d);
-            print_flux(rt, image, edition, t, k);
-            print_speed(rt, image, edition, t, k);
-            print_intervals(rt, image, edition, t, k);
-            print_closed(rt, image, edition, t, k);
-            newline(rt);
-        }
-        RevolutionAnswer::Refused(r) => {
-            print_refusal(rt, r);
-            newline(rt);
-        }
-    }
+fn print_revolution_data(rt: &impl Print, revolution: Result<RevolutionData, Refusal>) {
+    let _ = match revolution {
+        Ok(
+            RevolutionData {
+                duration,
+                words,
+                offset,
+            },
+        ) => print!(rt; " {duration} {words} {}", offset.0),
+        Err(refusal) => print!(rt; " {refusal}"),
+    };
 }
 
-fn speed_fields(rt: &impl Print, s: TrackSpeeds) {
-    flag(rt, b" slowest 300", s.slowest == 300.0);
-    flag(rt, b" fastest 300", s.fastest == 300.0);
+fn print_filled(rt: &impl Print, answer: Result<Filled, Refusal>) {
+    let _ = match answer {
+        Ok(Filled { filled, open }) => print!(rt; " filled {filled} open {open}"),
+        Err(refusal) => print!(rt; " {refusal}"),
+    };
 }
 
-fn print_speeds(rt: &impl Print, image: &[u8], edition: Edition, t: u32) {
-    text(rt, b"speeds");
-    match scp::track_speed(image, edition, t) {
-        TrackSpeedAnswer::Found(s) => speed_fields(rt, s),
-        TrackSpeedAnswer::None => text(rt, b" none"),
-        TrackSpeedAnswer::Refused(r) => print_refusal(rt, r),
-    }
-}
+// ---- the questions
 
-fn track_fields(rt: &impl Print, d: TrackData) {
-    let offset = d.offset;
-    number_32(rt, d.cylinder);
-    number_32(rt, d.head);
-    number(rt, offset.0);
-    number_32(rt, d.revolutions);
-}
-
-// The first, the last of 5, 6, 9, 200 and 255, the middle of 255, and two that no track has.
-fn all_revolutions(rt: &impl Print, image: &[u8], edition: Edition, t: u32) {
-    print_revolution(rt, image, edition, t, 0);
-    print_revolution(rt, image, edition, t, 4);
-    print_revolution(rt, image, edition, t, 5);
-    print_revolution(rt, image, edition, t, 8);
-    print_revolution(rt, image, edition, t, 127);
-    print_revolution(rt, image, edition, t, 199);
-    print_revolution(rt, image, edition, t, 254);
-    print_revolution(rt, image, edition, t, 255);
-    print_revolution(rt, image, edition, t, u32::MAX);
-}
-
-// By 1.4 the first and the last of 255.
-fn print_revolutions(rt: &impl Print, image: &[u8], edition: Edition, t: u32) {
-    match edition {
-        Edition::V1_4 => {
-            print_revolution(rt, image, edition, t, 0);
-            print_revolution(rt, image, edition, t, 254);
-        }
-        Edition::V1_6 => all_revolutions(rt, image, edition, t),
-    }
-}
-
-fn print_track(rt: &impl Print, image: &[u8], edition: Edition, t: u32) {
-    title(rt, b"track ", t);
-    match scp::track(image, edition, t) {
-        TrackAnswer::Found(d) => {
-            track_fields(rt, d);
-            newline(rt);
-            print_speeds(rt, image, edition, t);
-            newline(rt);
-            print_revolutions(rt, image, edition, t);
-        }
-        TrackAnswer::Refused(r) => {
-            print_refusal(rt, r);
-            newline(rt);
+impl Asked<'_> {
+    fn print_footer(self, rt: &impl Print) {
+        match scp::footer(self.image, self.edition) {
+            Ok(Some(footer)) => print_footer_data(rt, footer),
+            Ok(None) => {
+                let _ = println!(rt; "footer none");
+            }
+            Err(refusal) => {
+                let _ = println!(rt; "footer {refusal}");
+            }
         }
     }
-}
 
-fn ask(rt: &impl Print, image: &[u8], edition: Edition) {
-    if print_header(rt, image, edition) {
-        print_footer(rt, image, edition);
-        newline(rt);
-        print_track(rt, image, edition, 0);
-        print_track(rt, image, edition, 1);
-        print_track(rt, image, edition, 165);
-        print_track(rt, image, edition, 166);
-        print_track(rt, image, edition, 167);
-        print_track(rt, image, edition, 168);
-        print_track(rt, image, edition, u32::MAX);
+    fn print_speed(self, rt: &impl Print, track: u32, turn: u32) {
+        let _ = match scp::speed(self.image, self.edition, track, turn) {
+            Ok(Some(rpm)) => print!(rt; " speed 300 {}", u8::from(rpm == RPM)),
+            Ok(None) => print!(rt; " speed none"),
+            Err(refusal) => print!(rt; " speed {refusal}"),
+        };
+    }
+
+    fn print_intervals(self, rt: &impl Print, track: u32, turn: u32) {
+        let answer = scp::revolution_intervals(self.image, self.edition, track, turn, &mut [0; 2]);
+        let _ = print!(rt; " intervals");
+        print_filled(rt, answer);
+    }
+
+    // The intervals with their closing words, into three places and two: the answer, and what the two then hold.
+    fn print_closed(self, rt: &impl Print, track: u32, turn: u32) {
+        let mut times = [4, 5, 6];
+        let mut closings = [7, 8];
+        let answer = scp::revolution_closed_intervals(
+            self.image,
+            self.edition,
+            track,
+            turn,
+            &mut times,
+            &mut closings,
+        );
+        let _ = print!(rt; " closed");
+        print_filled(rt, answer);
+        let [first, second, third] = times;
+        let [by_first, by_second] = closings;
+        let _ = print!(rt; " times {first} {second} {third} by {by_first} {by_second}");
+    }
+
+    fn print_revolution(self, rt: &impl Print, track: u32, turn: u32) {
+        let revolution = scp::revolution(self.image, self.edition, track, turn);
+        let _ = print!(rt; "turn {turn}:");
+        print_revolution_data(rt, revolution);
+        if revolution.is_ok() {
+            let bytes = scp::flux(self.image, self.edition, track, turn).len();
+            let _ = print!(rt; " flux {bytes}");
+            self.print_speed(rt, track, turn);
+            self.print_intervals(rt, track, turn);
+            self.print_closed(rt, track, turn);
+        }
+        let _ = println!(rt);
+    }
+
+    fn print_speeds(self, rt: &impl Print, track: u32) {
+        let _ = match scp::track_speed(self.image, self.edition, track) {
+            Ok(Some(TrackSpeeds { slowest, fastest })) => {
+                let slow = u8::from(slowest == RPM);
+                let fast = u8::from(fastest == RPM);
+                println!(rt; "speeds slowest 300 {slow} fastest 300 {fast}")
+            }
+            Ok(None) => println!(rt; "speeds none"),
+            Err(refusal) => println!(rt; "speeds {refusal}"),
+        };
+    }
+
+    // The revolutions that are asked for: by 1.6 the first, the last of 5, 6, 9, 200 and 255, the middle of 255, and two that no track has; by 1.4 the
+    // first and the last of 255.
+    fn turns(self) -> &'static [u32] {
+        match self.edition {
+            Edition::V1_4 => &[0, 254],
+            Edition::V1_6 => &[0, 4, 5, 8, 127, 199, 254, 255, u32::MAX],
+        }
+    }
+
+    fn print_track(self, rt: &impl Print, number: u32) {
+        let track = scp::track(self.image, self.edition, number);
+        let _ = print!(rt; "track {number}:");
+        print_track_data(rt, track);
+        let _ = println!(rt);
+        if track.is_ok() {
+            self.print_speeds(rt, number);
+            for turn in self.turns() {
+                self.print_revolution(rt, number, *turn);
+            }
+        }
+    }
+
+    // The header's fields and what there is more to ask, or why every question is refused.
+    fn ask(self, rt: &impl Print) {
+        match scp::header(self.image, self.edition) {
+            Ok(header) => {
+                print_header(rt, header);
+                self.print_footer(rt);
+                for track in TRACKS {
+                    self.print_track(rt, track);
+                }
+            }
+            Err(refusal) => {
+                let _ = println!(rt; "asked: {refusal}");
+            }
+        }
+    }
+
+    // A revolution, asked for directly, and how long its flux is.
+    fn direct_revolution(self, rt: &impl Print, track: u32, turn: u32) {
+        let _ = print!(rt; " turn {turn}:");
+        print_revolution_data(
+            rt,
+            scp_direct::revolution(self.image, self.edition, track, turn),
+        );
+        let bytes = scp_direct::flux(self.image, self.edition, track, turn).len();
+        let _ = print!(rt; " flux {bytes}");
+    }
+
+    // Each track, its first revolution and the last of 255, asked for directly: these calls answer on refused images, too.
+    fn ask_directly(self, rt: &impl Print) {
+        for track in TRACKS {
+            let _ = print!(rt; "direct {track}:");
+            print_track_data(rt, scp_direct::track(self.image, self.edition, track));
+            self.direct_revolution(rt, track, 0);
+            self.direct_revolution(rt, track, 254);
+            let _ = println!(rt);
+        }
     }
 }
 
-// A revolution, asked for directly, and how long its flux is.
-fn direct_revolution(rt: &impl Print, image: &[u8], edition: Edition, t: u32, k: u32) {
-    title(rt, b" turn ", k);
-    match scp_direct::revolution(image, edition, t, k) {
-        RevolutionAnswer::Found(d) => revolution_fields(rt, d),
-        RevolutionAnswer::Refused(r) => print_refusal(rt, r),
-    }
-    field(
-        rt,
-        b" flux ",
-        scp_direct::flux(image, edition, t, k).len() as u64,
-    );
-}
-
-// A track, its first revolution and the last of 255, asked for directly.
-fn direct_track(rt: &impl Print, image: &[u8], edition: Edition, t: u32) {
-    title(rt, b"direct ", t);
-    match scp_direct::track(image, edition, t) {
-        TrackAnswer::Found(d) => track_fields(rt, d),
-        TrackAnswer::Refused(r) => print_refusal(rt, r),
-    }
-    direct_revolution(rt, image, edition, t, 0);
-    direct_revolution(rt, image, edition, t, 254);
-    newline(rt);
-}
-
-// The direct calls answer on refused images, too.
-fn ask_directly(rt: &impl Print, image: &[u8], edition: Edition) {
-    direct_track(rt, image, edition, 0);
-    direct_track(rt, image, edition, 1);
-    direct_track(rt, image, edition, 165);
-    direct_track(rt, image, edition, 166);
-    direct_track(rt, image, edition, 167);
-    direct_track(rt, image, edition, 168);
-    direct_track(rt, image, edition, u32::MAX);
-}
+// ---- an image
 
 fn judge_by_1_4(rt: &impl Print, image: &[u8]) {
-    text(rt, b"by 1.4:");
-    match scp::validate(image, Edition::V1_4) {
-        Validated::Valid => text(rt, b" valid"),
-        Validated::Refused(r) => print_refusal(rt, r),
-    }
-    newline(rt);
+    let _ = match scp::validate(image, Edition::V1_4) {
+        Ok(()) => println!(rt; "by 1.4: valid"),
+        Err(refusal) => println!(rt; "by 1.4: {refusal}"),
+    };
 }
 
 fn show(rt: &impl Print, image: &[u8]) {
-    scp_listing::list(rt, image);
-    ask(rt, image, Edition::V1_6);
-    ask_directly(rt, image, Edition::V1_6);
-    judge_by_1_4(rt, image);
-    ask(rt, image, Edition::V1_4);
-    ask_directly(rt, image, Edition::V1_4);
-}
-
-// Reads the file of that name, and shows it.
-fn show_file(rt: &(impl Print + Eprint + Files), name: &str) {
-    text(rt, b"== ");
-    text(rt, name.as_bytes());
-    newline(rt);
-    let mut file = match fs::open(rt, name) {
-        Ok(file) => file,
-        Err(e) => {
-            let _ = eprintln!(rt; "{name}: {e}");
-            return;
-        }
+    let by_1_6 = Asked {
+        image,
+        edition: Edition::V1_6,
     };
-    let mut buffer = [0; 65_536];
-    let n = reading::read_full(&mut file, &mut buffer);
-    drop(file);
-    show(rt, &buffer[..n]);
+    let by_1_4 = Asked {
+        image,
+        edition: Edition::V1_4,
+    };
+    let _ = scp_listing::list(rt, image);
+    by_1_6.ask(rt);
+    by_1_6.ask_directly(rt);
+    judge_by_1_4(rt, image);
+    by_1_4.ask(rt);
+    by_1_4.ask_directly(rt);
 }
 
 fn main(rt: HostRuntime) -> io::Result<()> {
     for name in env::args(&rt)?.skip(1) {
-        show_file(&rt, &name);
+        let _ = println!(rt; "== {name}");
+        if let Some(image) = reading::read_file(&rt, &name, FILE_LIMIT) {
+            show(&rt, &image);
+        }
     }
     Ok(())
 }
