@@ -9,9 +9,6 @@ use std::{env, io};
 // The most bytes of a file that are read.
 const FILE_LIMIT: usize = 65_536;
 
-// Where the checksum stands.
-const CHECKSUM_AT: usize = 12;
-
 const EDITIONS: [Edition; 2] = [Edition::V1_6, Edition::V1_4];
 
 // A rewrite: a track, its revolution, the duration, and the words as bytes.
@@ -64,7 +61,7 @@ fn print_changes(rt: &impl Print, before: &[u8], after: &[u8]) {
 // The length, the stored checksum, the sum of all bytes, and what validating says by each edition.
 fn print_image(rt: &impl Print, image: &[u8]) {
     let length = image.len();
-    let stored = octets::le32(image, CHECKSUM_AT);
+    let stored = scp_fields::checksum(image);
     let sum = octets::byte_sum(image);
     let _ = print!(rt; "length {length} stored {stored} bytes {sum}");
     for edition in EDITIONS {

@@ -17,6 +17,9 @@ use scp_tracks::RevolutionData;
 // The most bytes that the listing program takes.
 pub const INPUT_LIMIT: usize = 65_536;
 
+// How many tracks the table has. There is no `From` from usize to u32: the cast is proved to lose nothing.
+const TRACKS: u32 = scp_fields::TRACK_SLOTS as u32;
+
 // How many intervals flux has, its open time, and the number of its last closing word. Where there is no interval, that is 0, as the definition
 // `Counts` has it.
 #[derive(Clone, Copy)]
@@ -84,8 +87,9 @@ fn print_revolution(rt: &impl Print, image: &[u8], t: u32, entry: u32, k: u32) {
 
 // The lines of the revolutions of all tracks that are present.
 fn print_tracks(rt: &impl Print, image: &[u8]) {
+    // at most 255
     let revolutions = scp_fields::revolutions(image) as u32;
-    for t in 0..scp_fields::TRACK_SLOTS as u32 {
+    for t in 0..TRACKS {
         let entry = scp_fields::track_entry(image, t);
         if entry != 0 {
             for k in 0..revolutions {
@@ -98,7 +102,7 @@ fn print_tracks(rt: &impl Print, image: &[u8]) {
 // The line of the image: its length, how many tracks are present, the revolutions of each, and the checksum.
 fn print_image(rt: &impl Print, image: &[u8]) {
     let length = image.len();
-    let tracks = (0..scp_fields::TRACK_SLOTS as u32)
+    let tracks = (0..TRACKS)
         .filter(|t| scp_fields::track_entry(image, *t) != 0)
         .count();
     let revolutions = scp_fields::revolutions(image);
