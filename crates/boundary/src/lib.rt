@@ -9,8 +9,8 @@ use refusals::{Reason, Refusal};
 // How many positions a code can hold: 2^56.
 const POSITIONS: u64 = 72_057_594_037_927_936;
 
-// A number of the table and a position as one number.
-fn pack(number: u32, position: u64) -> u64
+// A number and a position as one number, whether or not the number is in the table.
+pub fn pack(number: u32, position: u64) -> u64
     ensures { result ≡ packed number position }
 {
     u64::from(number % 256) + 256 * (position % POSITIONS)
@@ -27,10 +27,8 @@ pub fn code(refusal: Refusal) -> u64
 pub fn code_of(found: Result<(), Refusal>) -> u64
     ensures { result ≡ found_code found }
 {
-    match found {
-        Ok(()) => 0,
-        Err(refused) => code(refused),
-    }
+    let (number, position) = refusals::number_and_position(found);
+    pack(number, position)
 }
 
 // Puts the values at the start of `out`; where they do not fit, puts nothing and answers 15.

@@ -11,8 +11,12 @@ ghost use Rattle.dsk_check.specs.Steps.{Roomy};
 use dsk_fields::INFO_SIZE;
 use refusals::{Reason, Refusal};
 
-// The name of a Track Information Block (DK-4).
-const NAME: &[u8] = b"Track-Info\r\n";
+// The name "Track-Info\r\n" of a Track Information Block, four characters at a time, each four as a number of 32 bits (DK-4).
+const NAME_TRAC: u32 = 0x6361_7254;
+
+const NAME_K_IN: u32 = 0x6E49_2D6B;
+
+const NAME_FO: u32 = 0x0A0D_6F66;
 
 // The most sectors of a block, and the greatest size code (R-34).
 const MOST_SECTORS: usize = 29;
@@ -21,11 +25,12 @@ const GREATEST_CODE: u8 = 6;
 
 // ---- a Track Information Block
 
-// Whether it has its name.
+// Whether it has its name. `starts_with` was tried: it compares twelve bytes one by one, which takes longer than three numbers.
 fn named(info: &[u8; INFO_SIZE]) -> bool
     ensures { result ≡ says_at info.now 0 block_text }
 {
-    info.starts_with(NAME)
+    (octets::le32(info, 0) == NAME_TRAC)
+        & ((octets::le32(info, 4) == NAME_K_IN) & (octets::le32(info, 8) == NAME_FO))
 }
 
 // Whether its name or its numbers are wrong.
@@ -46,13 +51,17 @@ fn entry_code(info: &[u8; INFO_SIZE], k: usize) -> u8
     info[dsk_fields::LIST_AT + dsk_fields::ENTRY_SIZE * k + dsk_fields::ENTRY_CODE_AT]
 }
 
-// Whether one of the first n sectors has a larger size code than the block.
+// Whether one of the first n sectors has a larger size code than the block. No test ends the loop, so the compiler makes several at once.
 fn larger_code(info: &[u8; INFO_SIZE], n: usize) -> bool
     requires { n ≤ 29 }
     ensures { result ≡ any_from (larger_code info.now 0) 0 n }
 {
     let code = info[dsk_fields::CODE_AT];
-    (0..n).any(|k| code < entry_code(info, k))
+    let mut larger = false;
+    for k in 0..n {
+        larger |= code < entry_code(info, k);
+    }
+    larger
 }
 
 // Whether there are too many sectors, too great a size code, or a sector with a larger one.

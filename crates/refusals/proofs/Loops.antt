@@ -1,7 +1,7 @@
 -- A loop that searches upwards from i below n. Its invariant is that what is to be found from i on is r; here stand what holds where it
 -- stops, where it goes on, and where it ends.
 use Prim.Native.Nat.{ℕ, zero, suc, ◌+◌, ◌-◌, ◌<◌, ◌≤◌}
-use mathlib.Core.Path.{◌≡◌, refl, sym, ap, ◌∙◌}
+use mathlib.Core.Path.{◌≡◌, refl, sym, ap, ap₂, ◌∙◌}
 use mathlib.Core.Bool.{Bool, true, false, ◌||◌, or_assoc, or-false}
 use native.Mathlib.Omega.{arith}
 use borrow.Author.Tests.{eq-eqb}
@@ -48,6 +48,12 @@ module _ (p : ℕ → Bool) where
   pub any_more : (i m : ℕ) → (any_from p i m || p (i + m)) ≡ any_from p i (m + 1)
   unfolding any_from
   any_more i m = sym (any_split i m 1 ∙ ap (λ (x : Bool). any_from p i m || x) (or-false (p (i + m))))
+
+  -- a loop from 0 that no finding ends: what it found so far, or at index k, is what it found of the first k + 1
+  pub any_so_far : (k : ℕ) {x y : Bool} → x ≡ any_from p 0 k → y ≡ p k → (x || y) ≡ any_from p 0 (k + 1)
+  any_so_far k {x} {y} e f =
+      let front : 0 + k ≡ k = omega arith in
+      ap₂ ◌||◌ e f ∙ simp front at (any_more 0 k)
 
 module _ (p : ℕ → Bool) (i m : ℕ) {n : ℕ} {r : Bool} (inv : any_from p i (n - i) ≡ r) (fits : i + m ≤ n) where
   block_step : r ≡ (any_from p i m || any_from p (i + m) (n - (i + m)))

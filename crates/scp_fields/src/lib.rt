@@ -29,7 +29,7 @@ pub enum Edition {
     V1_6,
 }
 
-// The number that names revolution 1.4; any other names 1.6.
+// The number that names revision 1.4; any other names 1.6.
 const NUMBER_OF_1_4: u64 = 14;
 
 // The edition that a number names.

@@ -60,14 +60,21 @@ pub fn plain_row() -> [u64; 16]
     [0; 16]
 }
 
+// The row of a number and a position, whether or not the number is in the table of refusals.
+pub fn number_row(number: u32, position: u64) -> [u64; 16]
+    ensures { result ≡ row_of (refused number position) }
+{
+    let mut row = [0; 16];
+    row[0] = u64::from(number);
+    row[1] = position;
+    row
+}
+
 // The row of a refusal.
 pub fn refused_row(refusal: Refusal) -> [u64; 16]
     ensures { result ≡ row_of (refused (number_of refusal.reason) refusal.position) }
 {
-    let mut row = [0; 16];
-    row[0] = u64::from(refusal.reason.number());
-    row[1] = refusal.position;
-    row
+    number_row(refusal.reason.number(), refusal.position)
 }
 
 // The row of validating.

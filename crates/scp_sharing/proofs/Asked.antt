@@ -5,6 +5,7 @@ use mathlib.Core.Path.{◌≡◌, refl, sym, ap, ◌∙◌}
 use mathlib.Core.Logic.{◌≢◌}
 use mathlib.Core.List.{List}
 use mathlib.Core.Bool.{Bool, true, false, not}
+use native.Mathlib.Omega.{arith}
 use lib.ListN.{length}
 use lib.Dec.{eqb, leb}
 use borrow.Author.Tests.{lt-leb, leb-false}
@@ -25,6 +26,7 @@ use Rattle.scp_lookup.proofs.FoundLaws.{RevolutionThere, FoundData}
 use Rattle.scp_sharing.specs.Claims.{stand_at, shared}
 use Rattle.scp_sharing.specs.RewriteFault.{bad_words, words_then_shared, rewrite_fault}
 use Rattle.scp_sharing.specs.Sharing.{Present}
+use Rattle.scp_sharing.specs.Walk.{HeadersInside}
 use Rattle.scp_sharing.specs.declared.Stand.{Stand}
 
 module _ (v : Edition) (b : List ℕ) (t k : ℕ) (rest : Fault) where
@@ -47,6 +49,10 @@ module _ (v : Edition) (b : List ℕ) (t k : ℕ) (rest : Fault) where
   pub there_then : RevolutionThere v b t k → revolution_then v b t k rest ≡ rest
   unfolding refuse_if
   there_then h = sym (then_rest v b t _ h.track) ∙ simp (lt-leb (revolutions b) k h.below)
+
+-- the header of each track that is there ends at or below E, so inside the image
+pub headers_inside : {v : Edition} {b : List ℕ} → Opens v b → HeadersInside v b
+headers_inside o u h n = let below = (o.tracks u h n).below in omega arith
 
 -- ---- what refuses a rewrite
 

@@ -2,13 +2,14 @@
 // and the sharing test. It opens the image anew, takes nobody's word, and walks once over the extents that others claim.
 #![tactic(auto)]
 
-ghost use Rattle.std.specs.Prelude.{◌≡◌, ◌+◌, ◌<◌, ◌≤◌, min};
+ghost use Rattle.std.specs.Prelude.{◌≡◌, ◌≢◌, ◌+◌, ◌<◌, ◌≤◌, length, min};
+ghost use Rattle.octets.specs.Numbers.{le32_at};
 ghost use Rattle.refusals.specs.Refusals.{fault_of};
 ghost use Rattle.scp_fields.specs.Header.{revolutions};
 ghost use Rattle.scp_tracks.specs.Tracks.{revolution_at};
 ghost use Rattle.scp_sharing.specs.Extents.{between, meets, any_of};
 ghost use Rattle.scp_sharing.specs.Claims.{flux_extent, stand_at, hit, header_claims, flux_claim, flux_claims, track_claim, track_claims, string_claim, string_claims, footer_claims, claims, shared};
-ghost use Rattle.scp_sharing.specs.Walk.{Spans};
+ghost use Rattle.scp_sharing.specs.Walk.{Spans, Inside, HeadersInside};
 ghost use Rattle.scp_sharing.specs.RewriteFault.{bad_words, rewrite_fault};
 
 use refusals::{Reason, Refusal};
@@ -55,6 +56,7 @@ struct Search<'a> {
     revolution: u32,
     ghost spans: { Spans stand span.from span.to },
     ghost below: { revolution < revolutions image.now },
+    ghost headers: { HeadersInside edition image.now },
 }
 
 // The bytes of duration and count.
@@ -122,13 +124,22 @@ fn record_at(e: u32, k: u32) -> usize
     e as usize + scp_tracks::record_offset(k)
 }
 
+// The 32-bit number at an offset, where its four bytes are all there. `octets::le32`, which tests that they are, made the walk twice as slow.
+fn inner32(image: &[u8], at: usize) -> u32
+    requires { at + 4 ≤ length image.now }
+    ensures { result ≡ le32_at image.now at }
+{
+    u32::from_le_bytes([image[at], image[at + 1], image[at + 2], image[at + 3]])
+}
+
 // The flux of revolution j of the track header at e.
 fn flux_extent(image: &[u8], e: u32, j: u32) -> Extent
+    requires { revolution_at e j + 12 ≤ length image.now }
     ensures { (result ≡ flux_extent image.now e j) × (result.start + result.size < 68_719_476_736) }
 {
     let at = record_at(e, j);
-    let words = octets::le32(image, at + 4);
-    let distance = octets::le32(image, at + 8);
+    let words = inner32(image, at + 4);
+    let distance = inner32(image, at + 8);
     let offset = scp_tracks::file_offset(FileOffset(u64::from(e)), HeaderOffset(distance));
     Extent {
         start: offset.0 as usize,
@@ -138,6 +149,7 @@ fn flux_extent(image: &[u8], e: u32, j: u32) -> Extent
 
 // What a rewrite of revolution k of the track header at e stands on.
 fn stand_of(image: &[u8], e: u32, k: u32) -> Stand
+    requires { revolution_at e k + 12 ≤ length image.now }
     ensures { result ≡ stand_at image.now e k }
 {
     let numbers = Extent {
@@ -169,6 +181,7 @@ impl Search<'_> {
     // The flux of revolution j of a track; never the rewrite's own. Most flux lies behind or before all that the rewrite stands on, and is not
     // looked at further.
     fn flux_hit(&self, t: Track, j: u32) -> bool
+        requires { revolution_at t.entry j + 12 ≤ length self.now.image.now }
         ensures { result ≡ any_of (hit self.now.stand) (flux_claim self.now.image.now self.now.track self.now.revolution t.number t.entry j) }
     {
         let x = flux_extent(self.image, t.entry, j);
@@ -186,6 +199,7 @@ impl Search<'_> {
 
     // The flux of the revolutions of a track.
     fn fluxes_hit(&self, t: Track) -> bool
+        requires { Inside self.now.image.now t.entry }
         ensures { result ≡ any_of (hit self.now.stand) (flux_claims self.now.image.now self.now.track self.now.revolution t.number t.entry) }
     {
         let n = scp_fields::revolutions(self.image) as u32;
@@ -200,6 +214,7 @@ impl Search<'_> {
     // A track, where its entry is not 0.
     #[tactic(auto, using(crate::proofs::ClaimLaws::track_none, crate::proofs::ClaimLaws::track_parts))]
     fn track_hit(&self, t: Track) -> bool
+        requires { t.entry ≢ 0 → Inside self.now.image.now t.entry }
         ensures { result ≡ any_of (hit self.now.stand) (track_claim self.now.image.now self.now.track self.now.revolution t.number t.entry) }
     {
         if t.entry == 0 {

@@ -4,6 +4,7 @@
 #![tactic(auto)]
 
 ghost use Rattle.std.specs.Prelude.{◌≡◌, ◌+◌, ◌<◌, ◌≤◌, length};
+ghost use Rattle.octets.specs.Numbers.{le32_at};
 ghost use Rattle.refusals.specs.Refusals.{fault_of};
 ghost use Rattle.scp_fields.specs.Header.{data_end};
 ghost use Rattle.scp_tracks.specs.Tracks.{
@@ -156,29 +157,37 @@ fn bad_track(image: &[u8], edition: Edition, e: usize, t: u32) -> bool
     bad_mark(image, e, t)
 }
 
+// The 32-bit number at an offset, where its four bytes are all there: the test of flux reads many, each inside its track data header.
+fn inner32(image: &[u8], at: usize) -> u32
+    requires { at + 4 ≤ length image.now }
+    ensures { result ≡ le32_at image.now at }
+{
+    u32::from_le_bytes([image[at], image[at + 1], image[at + 2], image[at + 3]])
+}
+
 // Whether the flux of revolution k of the track data header at e ends more than `room` bytes behind e.
 fn flux_past(image: &[u8], e: u32, k: u32, room: u64) -> bool
+    requires { revolution_at e k + 12 ≤ length image.now }
     ensures { result ≡ flux_past (e + room) image.now e k }
 {
     let at = e as usize + record_offset(k);
-    let words = octets::le32(image, at + 4);
-    let distance = octets::le32(image, at + 8);
+    let words = inner32(image, at + 4);
+    let distance = inner32(image, at + 8);
     room < u64::from(distance) + 2 * u64::from(words)
 }
 
-// Whether the flux of a revolution of the track data header at e ends past the data.
+// Whether the flux of a revolution of the track data header at e ends past the data. No test ends the loop, so the compiler makes several at once.
 fn bad_flux(image: &[u8], edition: Edition, e: u32) -> bool
     requires { e + header_size image.now ≤ data_end edition image.now }
     ensures { result ≡ bad_flux edition image.now e }
 {
     let revolutions = scp_fields::revolutions(image) as u32;
     let room = (scp_fields::data_end(image, edition) - e as usize) as u64;
+    let mut past = false;
     for k in 0..revolutions {
-        if flux_past(image, e, k, room) {
-            return true;
-        }
+        past |= flux_past(image, e, k, room);
     }
-    false
+    past
 }
 
 // What refuses track t, by its entry of the table: 9, then 10, then 11; nothing where the entry is 0.
