@@ -24,17 +24,20 @@ pub fn summarize(flux: &[u8]) -> Result<Summary, Refusal>
     }
     let pairs = flux.as_chunks::<2>().0;
     let mut intervals: u64 = 0;
-    let mut open: u64 = 0;
-    let mut total: u64 = 0;
-    for pair in pairs {
-        let word = u64::from(u16::from_be_bytes(*pair));
+    let mut ticks: u64 = 0;
+    let mut closed: u64 = 0;
+    for (i, pair) in pairs.iter().enumerate() {
+        let word = u16::from_be_bytes(*pair);
         intervals += u64::from(word != 0);
-        open = if word == 0 { open + ZERO_TICKS } else { 0 };
-        total += if word == 0 { ZERO_TICKS } else { word };
+        ticks += u64::from(word);
+        if word != 0 {
+            closed = i as u64 + 1;
+        }
     }
+    let words = pairs.len() as u64;
     Ok(Summary {
         intervals,
-        open,
-        total,
+        open: ZERO_TICKS * (words - closed),
+        total: ticks + ZERO_TICKS * (words - intervals),
     })
 }
