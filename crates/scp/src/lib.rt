@@ -110,8 +110,8 @@ pub fn footer(image: &[u8], edition: Edition) -> Result<Option<FooterData>, Refu
 pub fn track(image: &[u8], edition: Edition, track: u32) -> Result<TrackData, Refusal>
     ensures { of_track (found result) ≡ track_answer edition image.now track }
 {
-    let entry = scp_lookup::find_track(image, edition, track)?;
-    Ok(scp_lookup::track_on(image, track, entry))
+    let entry = scp_lookup::find_track(image, edition, track);
+    scp_lookup::track_on(image, track, entry)
 }
 
 // A revolution: duration, words, file offset of its flux.

@@ -37,7 +37,7 @@ fn find_revolution(
 ) -> Result<RevolutionData, Refusal>
     ensures { found result ≡ direct_found edition image.now track revolution }
 {
-    let entry = find_entry(image, edition, track)?;
+    let entry = find_entry(image, edition, track);
     scp_lookup::revolution_on(image, entry, revolution)
 }
 
@@ -45,8 +45,8 @@ fn find_revolution(
 pub fn track(image: &[u8], edition: Edition, track: u32) -> Result<TrackData, Refusal>
     ensures { of_track (found result) ≡ direct_track edition image.now track }
 {
-    let entry = find_entry(image, edition, track)?;
-    Ok(scp_lookup::track_on(image, track, entry))
+    let entry = find_entry(image, edition, track);
+    scp_lookup::track_on(image, track, entry)
 }
 
 // A revolution: duration, words, file offset of its flux.

@@ -3,10 +3,10 @@
 // found it.
 #![tactic(auto)]
 
-ghost use Rattle.std.specs.Prelude.{◌≡◌, ◌+◌, Ok};
+ghost use Rattle.std.specs.Prelude.{◌≡◌, ◌+◌};
 ghost use Rattle.copies.specs.Copying.{part_start};
 ghost use Rattle.refusals.specs.Refusals.{found};
-ghost use Rattle.scp_lookup.specs.Lookups.{found_track, found_revolution, track_data, revolution_on, flux_of, part_of, start_in};
+ghost use Rattle.scp_lookup.specs.Lookups.{found_track, found_revolution, track_on, revolution_on, flux_of, part_of, start_in};
 
 use refusals::{Reason, Refusal};
 use scp_fields::Edition;
@@ -23,23 +23,29 @@ pub struct TrackData {
 
 // ---- what is answered of what was found
 
-// The track of an entry: cylinder, head, file offset of its header, revolutions.
-pub fn track_on(image: &[u8], track: u32, entry: u32) -> TrackData
-    ensures { result ≡ track_data image.now track entry }
+// The track of an entry that was found: cylinder, head, file offset of its header, revolutions; what refused the entry, as it is.
+pub fn track_on(image: &[u8], track: u32, entry: Result<u32, Refusal>) -> Result<TrackData, Refusal>
+    ensures { found result ≡ track_on image.now track (found entry) }
 {
-    TrackData {
+    let entry = entry?;
+    Ok(TrackData {
         cylinder: scp_tracks::cylinder(track),
         head: scp_tracks::head(track),
         offset: FileOffset(u64::from(entry)),
         revolutions: scp_fields::revolutions(image) as u32,
-    }
+    })
 }
 
-// Revolution k of the track of an entry, or 14.
-pub fn revolution_on(image: &[u8], entry: u32, k: u32) -> Result<RevolutionData, Refusal>
-    ensures { found result ≡ revolution_on image.now k (Ok entry) }
+// Revolution k of the track of an entry that was found, or 14; what refused the entry, as it is.
+pub fn revolution_on(
+    image: &[u8],
+    entry: Result<u32, Refusal>,
+    k: u32,
+) -> Result<RevolutionData, Refusal>
+    ensures { found result ≡ revolution_on image.now k (found entry) }
 {
-    scp_tracks::revolution_at(image, entry, k).ok_or(Reason::Revolution.at(0))
+    let header = entry?;
+    scp_tracks::revolution_at(image, header, k).ok_or(Reason::Revolution.at(0))
 }
 
 // The flux of a revolution, as that part of the image, cut where the image ends; the empty part at offset 0 where it starts past the end.
@@ -90,6 +96,6 @@ pub fn find_revolution(
 ) -> Result<RevolutionData, Refusal>
     ensures { found result ≡ found_revolution edition image.now track k }
 {
-    let entry = find_track(image, edition, track)?;
+    let entry = find_track(image, edition, track);
     revolution_on(image, entry, k)
 }

@@ -2,7 +2,7 @@
 // What needs the record alone does not go by this crate.
 #![tactic(auto)]
 
-ghost use Rattle.std.specs.Prelude.{◌≡◌, Ok};
+ghost use Rattle.std.specs.Prelude.{◌≡◌};
 ghost use Rattle.refusals.specs.Refusals.{found};
 ghost use Rattle.scp_revolution.specs.Described.{described_on};
 
@@ -21,10 +21,14 @@ pub struct DescribedRevolution {
     pub total: u64,
 }
 
-// The revolution of a record, with the numbers of its flux, or 17.
-pub fn describe(image: &[u8], d: RevolutionData) -> Result<DescribedRevolution, Refusal>
-    ensures { found result ≡ described_on image.now (Ok d) }
+// The revolution of a record that was found, with the numbers of its flux, or 17; what refused the record, as it is.
+pub fn describe(
+    image: &[u8],
+    revolution: Result<RevolutionData, Refusal>,
+) -> Result<DescribedRevolution, Refusal>
+    ensures { found result ≡ described_on image.now (found revolution) }
 {
+    let d = revolution?;
     let offset = d.offset;
     let m = flux_summary::summarize(scp_lookup::flux_of(image, d))?;
     Ok(DescribedRevolution {
