@@ -4,23 +4,11 @@
 
 use refusals::Refusal;
 use scp_fields::Edition;
-use std::alloc::AllocError;
 
 // How many numbers a row has, and a list of calls: 21 calls each time.
 const ROW: usize = 16;
 
 const CALL_NUMBERS: usize = 153;
-
-// The runs: a name, the bytes of the image, and the places for the answers; a place too few, three more than they take, and as many as they take.
-const RUNS: [(&str, usize, usize); 7] = [
-    ("a place too few", 712, 335),
-    ("a", 712, 339),
-    ("old_footer", 768, 336),
-    ("string_in_flux", 800, 336),
-    ("text_in_flux", 800, 336),
-    ("taken_back", 712, 336),
-    ("shorter", 712, 336),
-];
 
 // A number and a space. A write that fails is passed over, here and below: no answer depends on it.
 fn print_number(rt: &impl Print, n: u64) {
@@ -70,31 +58,24 @@ fn read_calls(rt: &impl Input) -> [u64; CALL_NUMBERS] {
 }
 
 // Reads an image, its calls and their words, makes the calls, and shows the answers and what becomes of the image.
-fn run(
-    rt: &(impl Input + Print + AllocGlobal),
-    name: &str,
-    size: usize,
-    places: usize,
-) -> Result<(), AllocError> {
-    let mut image = vec![in rt.alloc(); 0; size]?;
-    let mut answers = vec![in rt.alloc(); 7; places]?;
+fn run(rt: &(impl Input + Print), name: &str, image: &mut [u8], answers: &mut [u64]) {
     let _ = println!(rt; "== {name}");
-    reading::read_full(&mut rt.reader(), &mut image);
+    reading::read_full(&mut rt.reader(), image);
     let calls = read_calls(rt);
     let mut words = [0; 34];
     reading::read_full(&mut rt.reader(), &mut words);
-    print_replayed(
-        rt,
-        sequence::replay(&mut image, &calls, &words, &mut answers),
-    );
-    print_rows(rt, &answers);
-    print_image(rt, &image);
-    Ok(())
+    print_replayed(rt, sequence::replay(image, &calls, &words, answers));
+    print_rows(rt, answers);
+    print_image(rt, image);
 }
 
-fn main(rt: HostRuntime) -> Result<(), AllocError> {
-    for (name, size, places) in RUNS {
-        run(&rt, name, size, places)?;
-    }
-    Ok(())
+// The places for the answers: one too few, three more than they take, and as many as they take.
+fn main(rt: HostRuntime) {
+    run(&rt, "a place too few", &mut [0; 712], &mut [7; 335]);
+    run(&rt, "a", &mut [0; 712], &mut [7; 339]);
+    run(&rt, "old_footer", &mut [0; 768], &mut [7; 336]);
+    run(&rt, "string_in_flux", &mut [0; 800], &mut [7; 336]);
+    run(&rt, "text_in_flux", &mut [0; 800], &mut [7; 336]);
+    run(&rt, "taken_back", &mut [0; 712], &mut [7; 336]);
+    run(&rt, "shorter", &mut [0; 712], &mut [7; 336]);
 }

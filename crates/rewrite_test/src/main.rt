@@ -4,7 +4,7 @@
 
 use scp_fields::Edition;
 use std::rt::Files;
-use std::{env, io};
+use std::{env, fs, io};
 
 // The most bytes of a file that are read.
 const FILE_LIMIT: usize = 65_536;
@@ -93,17 +93,37 @@ fn rewrite(rt: &impl Print, image: &mut [u8], edition: Edition, before: &[u8], a
     }
 }
 
+// The first bytes of the file of that name, read into the buffer. Where it cannot be opened, a line on standard error says why.
+fn read_file<'a>(
+    rt: &(impl Eprint + Files),
+    name: &str,
+    buffer: &'a mut [u8],
+) -> Option<&'a mut [u8]> {
+    let mut file = match fs::open(rt, name) {
+        Ok(file) => file,
+        Err(e) => {
+            let _ = eprintln!(rt; "{name}: {e}");
+            return None;
+        }
+    };
+    let n = reading::read_full(&mut file, buffer);
+    drop(file);
+    Some(&mut buffer[..n])
+}
+
 // Reads the file of that name, and tries all the rewrites, each on the file as it is read anew.
-fn show_file(rt: &(impl Print + Eprint + Files + AllocGlobal), name: &str) {
+fn show_file(rt: &(impl Print + Eprint + Files), name: &str) {
     let _ = println!(rt; "== {name}");
-    let Some(before) = reading::read_file(rt, name, FILE_LIMIT) else {
+    let mut buffer = [0; FILE_LIMIT];
+    let Some(before) = read_file(rt, name, &mut buffer) else {
         return;
     };
-    print_image(rt, &before);
+    print_image(rt, before);
     for edition in EDITIONS {
         for attempt in ATTEMPTS {
-            if let Some(mut image) = reading::read_file(rt, name, FILE_LIMIT) {
-                rewrite(rt, &mut image, edition, &before, attempt);
+            let mut buffer = [0; FILE_LIMIT];
+            if let Some(image) = read_file(rt, name, &mut buffer) {
+                rewrite(rt, image, edition, before, attempt);
             }
         }
     }

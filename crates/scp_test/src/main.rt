@@ -11,7 +11,7 @@ use scp_open::Header;
 use scp_speed::TrackSpeeds;
 use scp_tracks::RevolutionData;
 use std::rt::Files;
-use std::{env, io};
+use std::{env, fs, io};
 
 // The most bytes of a file that are read.
 const FILE_LIMIT: usize = 65_536;
@@ -271,12 +271,25 @@ fn show(rt: &impl Print, image: &[u8]) {
     by_1_4.ask_directly(rt);
 }
 
+// Reads the file of that name, and shows it.
+fn show_file(rt: &(impl Print + Eprint + Files), name: &str) {
+    let _ = println!(rt; "== {name}");
+    let mut file = match fs::open(rt, name) {
+        Ok(file) => file,
+        Err(e) => {
+            let _ = eprintln!(rt; "{name}: {e}");
+            return;
+        }
+    };
+    let mut buffer = [0; FILE_LIMIT];
+    let n = reading::read_full(&mut file, &mut buffer);
+    drop(file);
+    show(rt, &buffer[..n]);
+}
+
 fn main(rt: HostRuntime) -> io::Result<()> {
     for name in env::args(&rt)?.skip(1) {
-        let _ = println!(rt; "== {name}");
-        if let Some(image) = reading::read_file(&rt, &name, FILE_LIMIT) {
-            show(&rt, &image);
-        }
+        show_file(&rt, &name);
     }
     Ok(())
 }
