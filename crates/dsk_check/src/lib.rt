@@ -1,10 +1,10 @@
 // What refuses a standard DSK image: 30 to 35. The Disc Information Block is looked at, and each Track Information Block; no sector's data.
 #![tactic(auto)]
 
-ghost use Rattle.std.specs.Prelude.{◌≡◌, ◌+◌, ◌*◌, ◌<◌, ◌≤◌, ltb};
+ghost use Rattle.std.specs.Prelude.{◌≡◌, ◌+◌, ◌-◌, ◌*◌, ◌<◌, ◌≤◌, ltb};
 ghost use Rattle.refusals.specs.Refusals.{fault_of};
 ghost use Rattle.refusals.specs.Search.{any_from};
-ghost use Rattle.dsk_fields.specs.Fields.{block_text, says_at, info_size, entry_code, sides as side_count, tracks as track_count, sectors, data_size};
+ghost use Rattle.dsk_fields.specs.Fields.{block_text, says_at, info_size, size_code, entry_code, sides as side_count, tracks as track_count, sectors, data_size};
 ghost use Rattle.dsk_check.specs.Faults.{bad_block, larger_code, bad_sectors, block_fault, track_fault, blocks_fault, dsk_fault};
 ghost use Rattle.dsk_check.specs.Steps.{Roomy};
 
@@ -51,17 +51,43 @@ fn entry_code(info: &[u8; INFO_SIZE], k: usize) -> u8
     info[dsk_fields::LIST_AT + dsk_fields::ENTRY_SIZE * k + dsk_fields::ENTRY_CODE_AT]
 }
 
-// Whether one of the first n sectors has a larger size code than the block. No test ends the loop, so the compiler makes several at once.
+// Whether one of the sectors, from a first one on and below n, has a larger size code than the block.
+fn larger_from(info: &[u8; INFO_SIZE], first: usize, n: usize, code: u8) -> bool
+    requires { (first ≤ n) × (n ≤ 29) × (code ≡ size_code info.now 0) }
+    ensures { result ≡ any_from (larger_code info.now 0) first (n - first) }
+{
+    for k in first..n {
+        if code < entry_code(info, k) {
+            return true;
+        }
+    }
+    false
+}
+
+// Whether one of the first n sectors has a larger size code than the block. Four are tested at a time: `any` and a loop that no test ends took
+// up to 1.6 and 1.3 times as long for the whole image.
 fn larger_code(info: &[u8; INFO_SIZE], n: usize) -> bool
     requires { n ≤ 29 }
     ensures { result ≡ any_from (larger_code info.now 0) 0 n }
 {
     let code = info[dsk_fields::CODE_AT];
-    let mut larger = false;
-    for k in 0..n {
-        larger |= code < entry_code(info, k);
+    let mut k = 0;
+    while k + 3 < n {
+        if code < entry_code(info, k) {
+            return true;
+        }
+        if code < entry_code(info, k + 1) {
+            return true;
+        }
+        if code < entry_code(info, k + 2) {
+            return true;
+        }
+        if code < entry_code(info, k + 3) {
+            return true;
+        }
+        k += 4;
     }
-    larger
+    larger_from(info, k, n, code)
 }
 
 // Whether there are too many sectors, too great a size code, or a sector with a larger one.
