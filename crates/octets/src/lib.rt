@@ -54,7 +54,10 @@ fn bytes_near_end<const N: usize>(bytes: &[u8], at: usize) -> [u8; N]
 {
     let mut found = [0; N];
     if let Some(rest) = bytes.get(at..) {
-        found[..rest.len()].copy_from_slice(rest);
+        // Byte by byte: `copy_from_slice` would have an archive ask for `memcpy`.
+        for k in 0..N {
+            found[k] = byte(rest, k);
+        }
     }
     found
 }

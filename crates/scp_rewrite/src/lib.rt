@@ -22,7 +22,8 @@ fn store(image: &mut [u8], at: usize, bytes: &[u8], sum: u32) -> u32
 {
     let end = at + bytes.len();
     let old = octets::byte_sum(&image[at..end]);
-    image[at..end].copy_from_slice(bytes);
+    // `copy_from_slice` would have the archive ask for `memmove`.
+    copies::copy(image, at, bytes);
     let new = octets::byte_sum(bytes);
     sum.wrapping_add(new).wrapping_sub(old)
 }
