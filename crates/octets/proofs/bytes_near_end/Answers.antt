@@ -28,7 +28,7 @@ loop-k-preserved g c =
     let room : c.loop-k.k < length c.loop-k.found = omega arith in
     let there : c.in-Some.rest.now ≡ drop c.args.at c.args.bytes.now = let part : c.in-Some.rest.now ≡ slice_range c.args.bytes.now c.args.at (length c.args.bytes.now) = search (rules, c.in-Some.ensures.lookup) in part ∙ to_end c.args.at c.args.bytes.now in
     let here : c.byte.result ≡ byte_at c.args.bytes.now (c.args.at + c.loop-k.k) =
-        c.byte.ensures ∙ ap (λ (b : List ℕ). byte_at b c.loop-k.k) there ∙ get_or-drop c.args.at c.args.bytes.now c.loop-k.k 0 in
+    c.byte.ensures ∙ ap (λ (b : List ℕ). byte_at b c.loop-k.k) there ∙ get_or-drop c.args.at c.args.bytes.now c.loop-k.k 0 in
     (length-set c.loop-k.found c.loop-k.k c.byte.result ∙ l.0, put_next (byte_at c.args.bytes.now) c.args.at c.loop-k.found c.loop-k.k room l.1 here)
 
 pub returns-after-loop-k : goal.returns-after-loop-k
