@@ -56,7 +56,8 @@ fn bytes_near_end<const N: usize>(bytes: &[u8], at: usize) -> [u8; N]
     if let Some(rest) = bytes.get(at..) {
         // Byte by byte: `copy_from_slice` would have an archive ask for `memcpy`.
         for k in 0..N {
-            found[k] = byte(rest, k);
+            let next = if k < rest.len() { rest[k] } else { 0 };
+            found[k] = next;
         }
     }
     found
