@@ -2,7 +2,7 @@
 #![tactic(auto)]
 
 ghost use Rattle.std.specs.Prelude.{◌≡◌, ◌≤◌};
-ghost use Rattle.refusals.specs.Refusals.{found};
+ghost use Rattle.refusals.specs.Refusals.{found, in_table, refusal};
 ghost use Rattle.dsk_layout.specs.Layouts.{asked_for, track_data, track_length, block_count, image_length, bad_numbers, bad_sizes, layout_answer};
 
 use refusals::{Reason, Refusal};
@@ -22,10 +22,11 @@ const MOST_SECTORS: u32 = 29;
 const GREATEST_CODE: u32 = 5;
 
 // Refusal 41.
-const REFUSED: Refusal = Refusal {
-    reason: Reason::DskLayout,
-    position: 0,
-};
+fn refused() -> Refusal
+    ensures { in_table result ≡ refusal 41 0 }
+{
+    Reason::DskLayout.at(0)
+}
 
 // Tracks, sides, sectors of each block, their size code, gap and filler, as they are asked for.
 #[derive(Clone, Copy, Debug, PartialEq, Eq)]
@@ -107,7 +108,7 @@ impl LayoutNumbers {
         ensures { found result ≡ layout_answer (asked_for self) creator content }
     {
         if self.out_of_range() {
-            return Err(REFUSED);
+            return Err(refused());
         }
         let layout = Layout {
             tracks: self.tracks as u8,
@@ -118,7 +119,7 @@ impl LayoutNumbers {
             filler: self.filler as u8,
         };
         if layout.bad_sizes(creator, content) {
-            return Err(REFUSED);
+            return Err(refused());
         }
         Ok(layout)
     }
