@@ -1,11 +1,11 @@
 -- A revolution is present where its number is below the image's, and its offset is the exact sum.
-use Prim.Native.Nat.{ℕ, ◌+◌, ◌<◌, ◌≤◌}
+use Prim.Native.Nat.{ℕ, ◌+◌, ◌*◌, ◌<◌, ◌≤◌}
 use mathlib.Core.Path.{◌≡◌, refl, sym, ap, ◌∙◌}
 use mathlib.Core.List.{List}
-use mathlib.Core.Bool.{Bool, true, false, or-true}
+use mathlib.Core.Bool.{Bool, true, false, or-true, ◌&&◌, and-eq-true_iff}
 use native.Mathlib.Omega.{arith}
-use lib.Dec.{ltb}
-use borrow.Author.Tests.{ltb-true, ltb-false, lt-ltb, le-ltb, le-leb}
+use lib.Dec.{eqb, ltb}
+use borrow.Author.Tests.{eqb-true, eqb-false, eq-eqb, ltb-true, ltb-false, lt-ltb, le-ltb, le-leb}
 use Rattle.refusals.specs.Search.{any_from}
 use Rattle.scp_fields.specs.declared.Edition.{Edition}
 use Rattle.scp_fields.specs.Editions.{table_end}
@@ -48,6 +48,34 @@ module _ (v : Edition) (b : List ℕ) (e t : ℕ) where
   track_inside h =
       let past = (neither (ltb (data_end v b) (e + header_size b)) _ (neither (ltb e (table_end v)) _ h).1).0 in
       ltb-false (data_end v b) (e + header_size b) past
+
+-- four bytes, as one number, are those of another exactly if each is
+module _ {a b c d v w : ℕ} (t : ℕ) (v-is : v ≡ a + 256 * b + 65_536 * c + 16_777_216 * d) (w-is : w ≡ 4_936_276 + t * 16_777_216) where
+  pub mark_same : a < 256 → b < 256 → c < 256 → d < 256 → t < 256
+      → eqb v w ≡ eqb a 0x54 && (eqb b 0x52 && (eqb c 0x4B && eqb d t))
+  mark_same ha hb hc hd ht = by (eqb v w) refl
+    where
+      by : (x : Bool) → eqb v w ≡ x → eqb v w ≡ eqb a 0x54 && (eqb b 0x52 && (eqb c 0x4B && eqb d t))
+      by true q =
+          let same = eqb-true v w q in
+          let ea : a ≡ 0x54 = omega arith in
+          let eb : b ≡ 0x52 = omega arith in
+          let ec : c ≡ 0x4B = omega arith in
+          let ed : d ≡ t = omega arith in
+          q ∙ sym (simp (eq-eqb a 0x54 ea, eq-eqb b 0x52 eb, eq-eqb c 0x4B ec, eq-eqb d t ed))
+      by false q = q ∙ all _ refl
+        where
+          all : (x : Bool) → eqb a 0x54 && (eqb b 0x52 && (eqb c 0x4B && eqb d t)) ≡ x → false ≡ x
+          all true r =
+              let first = (and-eq-true_iff (eqb a 0x54) _).0 r in
+              let second = (and-eq-true_iff (eqb b 0x52) _).0 first.1 in
+              let third = (and-eq-true_iff (eqb c 0x4B) (eqb d t)).0 second.1 in
+              let ea = eqb-true a 0x54 first.0 in
+              let eb = eqb-true b 0x52 second.0 in
+              let ec = eqb-true c 0x4B third.0 in
+              let ed = eqb-true d t third.1 in
+              absurd (eqb-false v w q (omega arith))
+          all false r = refl
 
 -- ---- offsets
 

@@ -6,7 +6,8 @@
 ghost use Rattle.std.specs.Prelude.{◌≡◌, ◌+◌, ◌<◌, ◌≤◌, length};
 ghost use Rattle.octets.specs.Numbers.{le32_at};
 ghost use Rattle.refusals.specs.Refusals.{fault_of};
-ghost use Rattle.scp_fields.specs.Header.{data_end};
+ghost use Rattle.refusals.specs.Search.{any_from};
+ghost use Rattle.scp_fields.specs.Header.{revolutions, data_end};
 ghost use Rattle.scp_tracks.specs.Tracks.{
   cylinder_of,
   head_of,
@@ -18,7 +19,6 @@ ghost use Rattle.scp_tracks.specs.Tracks.{
   bad_mark,
   bad_track,
   flux_past,
-  bad_flux,
   track_fault_at,
 };
 ghost use Rattle.scp_tracks.specs.Revolutions.{record_of, data_of, revolution_of, of_presence, revolution_fault};
@@ -123,46 +123,45 @@ pub fn revolution_at(image: &[u8], header: u32, k: u32) -> Option<RevolutionData
 
 // ---- refusals 9 to 11
 
-// Whether a track lies outside the span or on a side that is not held.
+// Whether a track lies outside the span or on a side that is not held: a heads byte of 1 holds head 0 alone, one of 2 head 1.
 fn bad_slot(image: &[u8], t: u32) -> bool
     ensures { result ≡ bad_slot image.now t }
 {
     let i = t as usize;
     let start = scp_fields::start_track(image);
     let end = scp_fields::end_track(image);
-    let heads = scp_fields::heads(image);
-    (i < start) | ((end < i) | (((heads == 1) & (head(t) == 1)) | ((heads == 2) & (head(t) == 0))))
+    let heads = u32::from(scp_fields::heads(image));
+    (i < start) | ((end < i) | (heads == 2 - head(t)))
 }
 
-// Whether "TRK" and the track's number are not at offset e.
-fn bad_mark(image: &[u8], e: usize, t: u32) -> bool
-    requires { e + 4 ≤ length image.now }
-    ensures { result ≡ bad_mark image.now e t }
-{
-    !((image[e] == b'T')
-        & ((image[e + 1] == b'R') & ((image[e + 2] == b'K') & (u32::from(image[e + 3]) == t))))
-}
-
-// Whether the track data header at e is misplaced, without its mark or of another number.
-fn bad_track(image: &[u8], edition: Edition, e: usize, t: u32) -> bool
-    requires { e < 4_294_967_296 }
-    ensures { result ≡ bad_track edition image.now e t }
-{
-    if e < scp_fields::table_end(edition) {
-        return true;
-    }
-    if scp_fields::data_end(image, edition) < e + header_size(image) {
-        return true;
-    }
-    bad_mark(image, e, t)
-}
-
-// The 32-bit number at an offset, where its four bytes are all there: the test of flux reads many, each inside its track data header.
+// The 32-bit number at an offset, where its four bytes are all there: the tests of the mark and of flux read many, each inside its track data header.
 fn inner32(image: &[u8], at: usize) -> u32
     requires { at + 4 ≤ length image.now }
     ensures { result ≡ le32_at image.now at }
 {
     u32::from_le_bytes([image[at], image[at + 1], image[at + 2], image[at + 3]])
+}
+
+// Whether "TRK" and the track's number are not at offset e. The four bytes are compared at once.
+fn bad_mark(image: &[u8], e: usize, t: u32) -> bool
+    requires { (e + 4 ≤ length image.now) × (t < 256) }
+    ensures { result ≡ bad_mark image.now e t }
+{
+    inner32(image, e) != u32::from_le_bytes([b'T', b'R', b'K', t as u8])
+}
+
+// Whether the track data header at e is misplaced, without its mark or of another number; `end` is where the data end.
+fn bad_track(image: &[u8], edition: Edition, end: usize, e: usize, t: u32) -> bool
+    requires { (end ≡ data_end edition image.now) × (e < 4_294_967_296) × (t < 256) }
+    ensures { result ≡ bad_track edition image.now e t }
+{
+    if e < scp_fields::table_end(edition) {
+        return true;
+    }
+    if end < e + header_size(image) {
+        return true;
+    }
+    bad_mark(image, e, t)
 }
 
 // Whether the flux of revolution k of the track data header at e ends more than `room` bytes behind e.
@@ -176,18 +175,22 @@ fn flux_past(image: &[u8], e: u32, k: u32, room: u64) -> bool
     room < u64::from(distance) + 2 * u64::from(words)
 }
 
-// Whether the flux of a revolution of the track data header at e ends past the data. No test ends the loop, so the compiler makes several at once.
-fn bad_flux(image: &[u8], edition: Edition, e: u32) -> bool
-    requires { e + header_size image.now ≤ data_end edition image.now }
-    ensures { result ≡ bad_flux edition image.now e }
+// Whether the flux of a revolution of the track data header at e ends past `end`, which lies in the image. Two revolutions are tested in a turn.
+fn bad_flux(image: &[u8], e: u32, end: usize) -> bool
+    requires { (e + header_size image.now ≤ end) × (end ≤ length image.now) }
+    ensures { result ≡ any_from (flux_past end image.now e) 0 (revolutions image.now) }
 {
     let revolutions = scp_fields::revolutions(image) as u32;
-    let room = (scp_fields::data_end(image, edition) - e as usize) as u64;
-    let mut past = false;
-    for k in 0..revolutions {
-        past |= flux_past(image, e, k, room);
+    let room = (end - e as usize) as u64;
+    for pair in 0..revolutions / 2 {
+        if flux_past(image, e, 2 * pair, room) | flux_past(image, e, 2 * pair + 1, room) {
+            return true;
+        }
     }
-    past
+    if revolutions % 2 == 1 {
+        return flux_past(image, e, revolutions - 1, room);
+    }
+    false
 }
 
 // What refuses track t, by its entry of the table: 9, then 10, then 11; nothing where the entry is 0.
@@ -200,10 +203,11 @@ pub fn track_fault(image: &[u8], edition: Edition, entry: u32, t: u32) -> Result
     if bad_slot(image, t) {
         return Err(Reason::Slot.at(u64::from(t)));
     }
-    if bad_track(image, edition, entry as usize, t) {
+    let end = scp_fields::data_end(image, edition);
+    if bad_track(image, edition, end, entry as usize, t) {
         return Err(Reason::Track.at(u64::from(t)));
     }
-    if bad_flux(image, edition, entry) {
+    if bad_flux(image, entry, end) {
         return Err(Reason::Flux.at(u64::from(t)));
     }
     Ok(())
