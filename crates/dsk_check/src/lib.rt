@@ -1,10 +1,10 @@
 // What refuses a standard DSK image: 30 to 35. The Disc Information Block is looked at, and each Track Information Block; no sector's data.
 #![tactic(auto)]
 
-ghost use Rattle.std.specs.Prelude.{◌≡◌, ◌+◌, ◌-◌, ◌*◌, ◌<◌, ◌≤◌, ltb};
+ghost use Rattle.std.specs.Prelude.{◌≡◌, ◌+◌, ◌-◌, ◌*◌, ◌<◌, ◌≤◌, length, take, drop, ltb};
 ghost use Rattle.refusals.specs.Refusals.{fault_of};
 ghost use Rattle.refusals.specs.Search.{any_from};
-ghost use Rattle.dsk_fields.specs.Fields.{block_text, says_at, info_size, size_code, entry_code, sides as side_count, tracks as track_count, sectors, data_size};
+ghost use Rattle.dsk_fields.specs.Fields.{block_text, says_at, info_size, size_code, entry_code, sides as side_count, tracks as track_count, sectors, data_size, block_of};
 ghost use Rattle.dsk_check.specs.Faults.{bad_block, larger_code, bad_sectors, block_fault, track_fault, blocks_fault, dsk_fault};
 ghost use Rattle.dsk_check.specs.Steps.{Roomy};
 
@@ -24,6 +24,14 @@ const MOST_SECTORS: usize = 29;
 const GREATEST_CODE: u8 = 6;
 
 // ---- a Track Information Block
+
+// The information block that starts at an offset, where it lies whole in the image. `info_at` tests that, for each block, and took a fifth longer.
+fn inner_info(image: &[u8], at: usize) -> &[u8; INFO_SIZE]
+    requires { at + info_size ≤ length image.now }
+    ensures { result.now ≡ take info_size (drop at image.now) }
+{
+    image[at..at + INFO_SIZE].first_chunk().unwrap()
+}
 
 // Whether it has its name. `starts_with` was tried: it compares twelve bytes one by one, which takes longer than three numbers.
 fn named(info: &[u8; INFO_SIZE]) -> bool
@@ -109,15 +117,14 @@ fn bad_data(info: &[u8; INFO_SIZE], track_size: usize) -> bool
 
 // ---- all blocks
 
-// What refuses the block of a track and a side: 33, 34 or 35.
+// What refuses the block of a track and a side, which starts at an offset: 33, 34 or 35.
 #[tactic(auto, using(crate::proofs::Infos::own_block, crate::proofs::Infos::own_sectors, crate::proofs::Infos::own_data), unfolding(crate::specs::Faults::block_fault_at, refusals::specs::Refusals::refuse_if))]
-fn block_fault(image: &[u8], track: usize, side: usize) -> Result<(), Refusal>
-    requires { Roomy image.now × (track < track_count image.now) × (side < side_count image.now) × (track < 256) × (side < 256) }
+fn block_fault(image: &[u8], at: usize, track: usize, side: usize) -> Result<(), Refusal>
+    requires { Roomy image.now × (at ≡ block_of image.now track side) × (track < track_count image.now) × (side < side_count image.now) × (track < 256) × (side < 256) }
     ensures { fault_of result ≡ block_fault image.now track side }
 {
     let index = dsk_fields::block_index(image, track as u8, side as u8) as u64;
-    let at = dsk_fields::block_at(image, track as u8, side as u8);
-    let info = dsk_fields::info_at(image, at).unwrap();
+    let info = inner_info(image, at);
     if bad_block(info, track, side) {
         return Err(Reason::DskBlock.at(index));
     }
@@ -130,14 +137,17 @@ fn block_fault(image: &[u8], track: usize, side: usize) -> Result<(), Refusal>
     Ok(())
 }
 
-// The first faulty block of a track.
+// The first faulty block of a track, whose first block starts at an offset.
 #[tactic(auto, using(crate::proofs::Results::err_here, crate::proofs::Results::ok_next, crate::proofs::Results::ok_end))]
-fn track_fault(image: &[u8], track: usize) -> Result<(), Refusal>
-    requires { Roomy image.now × (track < track_count image.now) × (track < 256) }
+fn track_fault(image: &[u8], start: usize, track: usize) -> Result<(), Refusal>
+    requires { Roomy image.now × (start ≡ block_of image.now track 0) × (track < track_count image.now) × (track < 256) }
     ensures { fault_of result ≡ track_fault image.now track }
 {
+    let size = dsk_fields::track_size(image);
+    let mut at = start;
     for side in 0..dsk_fields::sides(image) {
-        block_fault(image, track, side)?;
+        block_fault(image, at, track, side)?;
+        at += size;
     }
     Ok(())
 }
@@ -148,8 +158,11 @@ fn blocks_fault(image: &[u8]) -> Result<(), Refusal>
     requires { Roomy image.now }
     ensures { fault_of result ≡ blocks_fault image.now }
 {
+    let step = dsk_fields::sides(image) * dsk_fields::track_size(image);
+    let mut at = INFO_SIZE;
     for track in 0..dsk_fields::tracks(image) {
-        track_fault(image, track)?;
+        track_fault(image, at, track)?;
+        at += step;
     }
     Ok(())
 }
