@@ -15,7 +15,7 @@ pub struct Summary {
     pub total: u64,
 }
 
-// The numbers of the flux bytes, in one pass over their words.
+// The numbers of the flux bytes, in one pass over their words: those behind the last closing word from the end, then the others.
 pub fn summarize(flux: &[u8]) -> Result<Summary, Refusal>
     ensures { of_summarized result ≡ summarizing flux.now }
 {
@@ -23,21 +23,21 @@ pub fn summarize(flux: &[u8]) -> Result<Summary, Refusal>
         return Err(Reason::Words.at(0));
     }
     let pairs = flux.as_chunks::<2>().0;
+    let mut closed = pairs.len();
+    while closed > 0 && u16::from_be_bytes(pairs[closed - 1]) == 0 {
+        closed -= 1;
+    }
     let mut intervals: u64 = 0;
     let mut ticks: u64 = 0;
-    let mut closed: u64 = 0;
-    for (i, pair) in pairs.iter().enumerate() {
+    for pair in &pairs[..closed] {
         let word = u16::from_be_bytes(*pair);
         intervals += u64::from(word != 0);
         ticks += u64::from(word);
-        if word != 0 {
-            closed = i as u64 + 1;
-        }
     }
     let words = pairs.len() as u64;
     Ok(Summary {
         intervals,
-        open: ZERO_TICKS * (words - closed),
+        open: ZERO_TICKS * (words - closed as u64),
         total: ticks + ZERO_TICKS * (words - intervals),
     })
 }
